@@ -1,0 +1,10 @@
+pub mod Series
+pub mod Majorant
+pub mod Decay
+pub mod NearOne
+pub mod Tail
+pub mod Carry
+pub mod Coefficient
+pub mod Cauchy
+pub mod Product
+pub mod Laws
