@@ -1,6 +1,6 @@
 -- Certificates of inequalities: a sum of products of facts, of squares and of numerals is not negative, and where the solver finds that it
 -- is what the goal needs, the goal holds. `lin` (Linear) looks for them.
-use mathlib.Core.Path.{_≡_, sym, _∙_, ap, subst}
+use mathlib.Core.Path.{_∙_, ap, subst}
 use mathlib.Core.List.{List, [], _∷_}
 use mathlib.Core.Bool.{Bool, true, false, _&&_}
 use Prim.Native.Nat.{ℕ, zero, suc}

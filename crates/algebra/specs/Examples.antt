@@ -5,7 +5,7 @@ use Prim.Native.Nat.{ℕ, suc, _+_, _*_, _≤_, _<_}
 use lib.IntN.{ℤ, pos, _+ℤ_, _-ℤ_, _*ℤ_}
 use Rattle.algebra.specs.Ring.{Ring}
 use Rattle.algebra.specs.Integer.{ℤR}
-use Rattle.algebra.specs.Gauss.{𝔾, 𝔾R, ιᵍ, _+ᵍ_, _-ᵍ_, _*ᵍ_, dot}
+use Rattle.algebra.specs.Gauss.{𝔾, 𝔾R, ιᵍ, _+ᵍ_, _-ᵍ_, _*ᵍ_}
 use Rattle.algebra.specs.Reify.{ring!, reify, reifyᵍ, reifyᴿ}
 use Rattle.algebra.specs.Order.{_⩽_, _⋖_, nonneg-mul, nonneg-sq, sub-nonneg, pos-inj-le}
 use Rattle.algebra.specs.Linear.{lin, lin<, _&_, _&<_, _&≡_, _&ℕ_, none}

@@ -7,7 +7,7 @@ use native.Mathlib.Omega.{arith}
 use lib.IntN.{ℤ, pos, negsuc, _+ℤ_, _*ℤ_}
 use lib.Signed.{shrZ}
 use Rattle.algebra.specs.Reify.{reify}
-use Rattle.algebra.specs.Order.{_⩽_, pos-mono, pos-inj-le, ⩽-antisym}
+use Rattle.algebra.specs.Order.{_⩽_, pos-mono, ⩽-antisym}
 use Rattle.algebra.specs.Linear.{lin, _&_, _&ℕ_, none}
 use Rattle.algebra.specs.Inequality.{below-next}
 

@@ -1,8 +1,7 @@
 -- Complex whole numbers (Gaussian integers): a commutative ring, with conjugate, multiplication by i, squared length and inner product.
-use mathlib.Core.Path.{_≡_, refl, sym, _∙_, ap}
+use mathlib.Core.Path.{_≡_, refl}
 use mathlib.Core.List.{List, [], _∷_}
-use lib.Dec.{T}
-use lib.IntN.{ℤ, pos, negsuc, _+ℤ_, _-ℤ_, _*ℤ_, negℤ}
+use lib.IntN.{ℤ, pos, _+ℤ_, _-ℤ_, _*ℤ_, negℤ}
 use Rattle.algebra.specs.Ring.{Ring}
 use Rattle.algebra.specs.Integer.{ℤR}
 use Rattle.algebra.specs.Solver.{E, X, K, _:+_, _:-_, _:*_, :neg, ring, den, nf, Zero}

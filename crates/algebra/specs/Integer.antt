@@ -1,6 +1,6 @@
 -- ℤ is a commutative ring.
 use mathlib.Core.Path.{_≡_, refl, sym, _∙_, ap}
-use Prim.Native.Nat.{ℕ, zero, suc}
+use Prim.Native.Nat.{zero, suc}
 use lib.IntN.{ℤ, pos, negsuc, sucℤ, predℤ, negℤ, _+ℤ_, _-ℤ_, _*ℤ_, one, negℤ-negℤ, +ℤ-idl, +ℤ-idr, +ℤ-assoc, +ℤ-comm, +ℤ-invr, sucℤ-+ℤ, predℤ-+ℤ, sucℤ-*ℤ, predℤ-*ℤ, negℤ-+ℤ, negℤ-sucℤ, negℤ-predℤ, *ℤ-comm, *ℤ-one, zero-*ℤ}
 use Rattle.algebra.specs.Ring.{Ring}
 

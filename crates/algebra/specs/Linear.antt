@@ -1,16 +1,16 @@
 -- The inequality prover `lin` (Lib says how it is used): a certificate is looked for by Fourier–Motzkin elimination over the monomials of the
 -- facts while antt checks, and Certificate's theorem checks it.
-use mathlib.Core.Path.{_≡_, refl, sym, ap, subst, subst₂}
+use mathlib.Core.Path.{_≡_, sym, subst₂}
 use mathlib.Core.List.{List, [], _∷_}
-use mathlib.Core.Bool.{Bool, true, false, cond}
-use mathlib.Core.Logic.{_⊎_, ⊎-elim}
-use Prim.Native.Nat.{ℕ, zero, suc, _+_, _*_, _/_, _≤_, compare, Ordering, Ordering·lt, Ordering·eq, Ordering·gt}
+use mathlib.Core.Bool.{Bool, true, false}
+use mathlib.Core.Logic.{⊎-elim}
+use Prim.Native.Nat.{ℕ, zero, suc, _+_, _*_, _/_, _≤_, compare, Ordering·lt, Ordering·eq, Ordering·gt}
 use lib.Dec.{T, leb}
 use lib.IntN.{ℤ, pos, negsuc, _+ℤ_, _*ℤ_, natAbs}
 use Rattle.algebra.specs.Integer.{ℤR}
-use Rattle.algebra.specs.Solver.{E, X, K, _:+_, _:-_, _:*_, P, con, hor, nf, isZ, app, den, Left, monos, verdict}
+use Rattle.algebra.specs.Solver.{K, _:+_, _:-_, P, con, hor, nf, app, den, monos}
 use Rattle.algebra.specs.Certificate.{H, _:≤_, C, hyp, lit, _⊞_, _⊠_, cex, isNeg, Holds, refute}
-use Rattle.algebra.specs.Order.{_⩽_, le-or-gt, ⩽-of-eq, ⩽-antisym, suc-le-of-lt, lt-of-suc-le, pos-mono, pos-inj-le}
+use Rattle.algebra.specs.Order.{_⩽_, le-or-gt, ⩽-of-eq, suc-le-of-lt, lt-of-suc-le, pos-mono}
 use lib.Signed.{_<ℤ_}
 use Rattle.algebra.specs.Reify.{Q, Qs, qs-nil, qs-two}
 

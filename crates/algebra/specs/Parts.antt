@@ -171,6 +171,6 @@ within-parts {z} {r} h = record {
 pub parts-within : {z : 𝔾} {b : ℤ} → Parts z b → Within (ιᵍ (pos 70) *ᵍ z) (pos 99 *ℤ b)
 unfolding ιᵍ _*ᵍ_
 parts-within {z} {b} h = record {
-  sign = nonneg-mul (nonneg-pos 99) (size-sign (h .re));
+  sign = lin (b ∷ []) (size-sign (h .re) & none) (search reify depth 20) tt;
   size = lin (z .re ∷ z .im ∷ b ∷ []) (size-sq (h .re) & size-sq (h .im) & nonneg-sq b & none) (search reify depth 20) tt;
 }

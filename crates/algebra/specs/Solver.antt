@@ -4,7 +4,7 @@ use mathlib.Core.List.{List, [], _∷_}
 use mathlib.Core.Bool.{Bool, true, false, _&&_}
 use Prim.Native.Nat.{ℕ, zero, suc, _+_}
 use lib.Dec.{T}
-use lib.IntN.{ℤ, pos, negsuc, _+ℤ_, _*ℤ_, negℤ}
+use lib.IntN.{ℤ, pos, negsuc, _+ℤ_, _*ℤ_}
 use Rattle.algebra.specs.Test.{and-left, and-right}
 use Rattle.algebra.specs.Ring.{Ring, zero-add, sub-zero, zero-mul, mul-zero, mul-add, mul-left-comm, swap4, minus-one}
 

@@ -12,7 +12,7 @@ use Rattle.algebra.specs.Gauss.{𝔾, 𝔾R, ιᵍ, negᵍ, _+ᵍ_, _-�
 use Rattle.algebra.specs.Reify.{ring!, reify, reifyᵍ}
 use Rattle.algebra.specs.Order.{_⩽_, ⩽-trans, nonneg-add, nonneg-mul, nonneg-sq, sub-nonneg}
 use Rattle.algebra.specs.Linear.{lin, _&_, none}
-use Rattle.algebra.specs.Inequality.{sq-le, le-cancel, mul-mono}
+use Rattle.algebra.specs.Inequality.{sq-le, le-cancel}
 use Rattle.algebra.specs.Sum.{sum}
 
 pub record Within (z : 𝔾) (r : ℤ) : Type 0 where

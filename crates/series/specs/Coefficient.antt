@@ -7,11 +7,11 @@ use Rattle.algebra.specs.Binomial.{choose, choose-over}
 use Rattle.series.specs.Series.{D, D-pos}
 
 -- D (k + d) / D k
-rise : ℕ → ℕ → ℕ → ℕ
+unfoldable pub rise : ℕ → ℕ → ℕ → ℕ
 rise U k zero = 1
 rise U k (suc d) = U * suc (k + d) * rise U k d
 
-pub co : ℕ → ℕ → ℕ → ℕ
+unfoldable pub co : ℕ → ℕ → ℕ → ℕ
 co U n k = rise U k (n - k)
 
 module _ (U : ℕ) where

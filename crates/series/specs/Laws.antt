@@ -7,7 +7,7 @@ use Rattle.algebra.specs.Power.{pow-pos}
 use Rattle.algebra.specs.Order.{_⩽_}
 use Rattle.algebra.specs.Gauss.{𝔾, ιᵍ, _+ᵍ_, _-ᵍ_, _*ᵍ_}
 use Rattle.algebra.specs.Within.{Within}
-use Rattle.series.specs.Series.{D, Sᵍ, Dᵍ, Dᶻ}
+use Rattle.series.specs.Series.{fact, Sᵍ, Dᵍ, Dᶻ}
 use Rattle.series.specs.NearOne.{room, near-one, size}
 use Rattle.series.specs.Tail.{TailBound, tail-within}
 use Rattle.series.specs.Carry.{carry}
@@ -36,19 +36,19 @@ laws U T₀ p q c U>0 c>0 tb = record {
 -- ---- the numbers
 -- R = 9/4, 2, 1 at 24 terms; R = 16 at 80
 pub bound-9/4 : TailBound 24 9 4 (2 ^ 50)
-unfolding D
+unfolding fact
 bound-9/4 = record { a = 91; a-is = refl; a>0 = lit< tt; q>0 = lit< tt; bound = lit≤ tt }
 
 pub bound-2 : TailBound 24 2 1 (2 ^ 54)
-unfolding D
+unfolding fact
 bound-2 = record { a = 23; a-is = refl; a>0 = lit< tt; q>0 = lit< tt; bound = lit≤ tt }
 
 pub bound-1 : TailBound 24 1 1 (2 ^ 78)
-unfolding D
+unfolding fact
 bound-1 = record { a = 24; a-is = refl; a>0 = lit< tt; q>0 = lit< tt; bound = lit≤ tt }
 
 pub bound-16 : TailBound 80 16 1 (2 ^ 74)
-unfolding D
+unfolding fact
 bound-16 = record { a = 65; a-is = refl; a>0 = lit< tt; q>0 = lit< tt; bound = lit≤ tt }
 
 -- at every width F, one is 2^F units

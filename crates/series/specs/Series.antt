@@ -1,24 +1,32 @@
--- The power series of e^(z/U), U units to one, multiplied out: the sum of its first T terms at z is S T z / D T.
--- Over any ring: the complex series (𝔾R) and its real majorant (ℤR) are one definition.
+-- The exact exponential to T terms (01, What demand 3 compares): "For two parts (zx, zy) in units, z is (zx + i·zy)/2^48. Its exact exponential
+-- to T terms is the sum of z^j/j! for j from 0 to T − 1, in exact fractions, the term for j = 0 being one. Such a fraction is a pair of whole
+-- numbers over one positive whole divisor."
+-- Here one is U units, and the fraction is S T z / D T; PlainSum has the sum term by term. The definition is over any ring, so the complex
+-- series (𝔾R) and the real one that majorises it (ℤR) are one.
 use mathlib.Core.Path.{_≡_, refl, sym, _∙_, ap, ap₂}
 use mathlib.Core.List.{[], _∷_}
 use Prim.Native.Nat.{ℕ, zero, suc, _*_, _^_, _<_}
 use native.Mathlib.Nat.{mul-pos, pow-zero, pow-suc}
 use native.Mathlib.Omega.{arith}
 use lib.IntN.{ℤ, pos}
-use Rattle.algebra.specs.Ring.{Ring}
+use Rattle.algebra.specs.Ring.{Ring, pw, mul-zero}
 use Rattle.algebra.specs.Integer.{ℤR}
 use Rattle.algebra.specs.Gauss.{𝔾, 𝔾R}
-use Rattle.algebra.specs.Ring.{pw, mul-zero}
 use Rattle.algebra.specs.Reify.{ring!, reifyᴿ}
 
--- ---- the divisor U^T T!
+-- ---- the divisor, U^T · T!
 unfoldable pub D : ℕ → ℕ → ℕ
 D U zero = 1
 D U (suc T) = U * suc T * D U T
 
-abbrev pub fact : ℕ → ℕ
-fact T = D 1 T
+unfoldable pub fact : ℕ → ℕ
+fact zero = 1
+fact (suc T) = suc T * fact T
+
+pub D-fact : (U T : ℕ) → D U T ≡ U ^ T * fact T
+unfolding D fact
+D-fact U zero = omega (arith, pow-zero U)
+D-fact U (suc T) = ap (λ t. U * suc T * t) (D-fact U T) ∙ omega (arith, ap (λ t. t * (suc T * fact T)) (pow-suc U T))
 
 pub D-suc : (U T : ℕ) → D U (suc T) ≡ U * suc T * D U T
 unfolding D
@@ -29,12 +37,7 @@ unfolding D
 D-pos U h zero = omega arith
 D-pos U h (suc T) = mul-pos (mul-pos h (omega arith)) (D-pos U h T)
 
-pub D-fact : (U T : ℕ) → D U T ≡ U ^ T * fact T
-unfolding D
-D-fact U zero = omega (arith, pow-zero U)
-D-fact U (suc T) = ap (λ t. U * suc T * t) (D-fact U T) ∙ omega (arith, ap (λ t. t * (suc T * fact T)) (pow-suc U T))
-
--- ---- the sum, and its terms from the n-th up to the T-th
+-- ---- the sum: one more term z^T/(U^T T!) over one more factor of the divisor; and its terms from the n-th up to the T-th
 module _ (R : Ring) (U : ℕ) where
   open Ring R using (A, add, mul, neg, ι, ι-mul, add-zero, add-neg)
 
@@ -60,7 +63,7 @@ module _ (R : Ring) (U : ℕ) where
   pub tail-suc : (n T : ℕ) (z : A) → tail n (suc T) z ≡ mul (ι (pos (U * suc T))) (add (tail n T z) (mul (Dᴿ n) (pw R z T)))
   unfolding tail S
   tail-suc n T z = ap (λ t. add (mul (Dᴿ n) (S (suc T) z)) (neg (mul t (S n z)))) (Dᴿ-suc T)
-      ∙ ring! R (Dᴿ n ∷ ι (pos (U * suc T)) ∷ Dᴿ T ∷ S T z ∷ S n z ∷ pw R z T ∷ []) (search reifyᴿ depth 20) tt
+      ∙ ring! R (Dᴿ n ∷ ι (pos (U * suc T)) ∷ Dᴿ T ∷ S T z ∷ S n z ∷ pw R z T ∷ z ∷ []) (search reifyᴿ depth 20) tt
 
   -- the sum less one
   pub tail-one : (T : ℕ) (z : A) → tail 1 T z ≡ mul (ι (pos U)) (add (S T z) (neg (Dᴿ T)))
