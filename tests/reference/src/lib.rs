@@ -1,0 +1,14 @@
+//! A second implementation of paper 01, written for comparison: plain i128
+//! arithmetic, tables computed at first use, nothing shared with the product.
+//! "01" in a comment is that paper, "000" and "001" its source documents.
+
+pub mod answer;
+pub mod closeness;
+pub mod exponential;
+pub mod fixed;
+pub mod logarithm;
+pub mod point;
+pub mod samples;
+pub mod sheet;
+pub mod tables;
+pub mod width;

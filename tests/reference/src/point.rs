@@ -1,0 +1,68 @@
+//! Points in units, and the step.
+
+use std::ops::{Add, Sub};
+
+#[derive(Clone, Copy, PartialEq, Eq, Debug)]
+pub struct Point {
+    pub x: i128,
+    pub y: i128,
+}
+
+/// A point with parts -1, 0 or 1.
+pub type Digit = Point;
+
+pub fn point(x: i128, y: i128) -> Point {
+    Point { x, y }
+}
+
+/// floor(a / 2^n): `>>` keeps the sign, so it goes towards minus infinity.
+pub fn floor_quotient(a: i128, n: u32) -> i128 {
+    a >> n
+}
+
+/// ceil(a / 2^n).
+pub fn ceiling_quotient(a: i128, n: u32) -> i128 {
+    -floor_quotient(-a, n)
+}
+
+/// An answer's number, which 01's bounds keep within 64 bits.
+pub fn word(value: i128) -> i64 {
+    value.try_into().expect("a number of 64 bits")
+}
+
+impl Point {
+    /// The product as complex whole numbers.
+    pub fn times(self, other: Point) -> Point {
+        point(self.x * other.x - self.y * other.y, self.x * other.y + self.y * other.x)
+    }
+
+    /// i^quarters times the point.
+    pub fn turned(self, quarters: u32) -> Point {
+        (0..quarters).fold(self, |p, _| point(-p.y, p.x))
+    }
+
+    /// 01, The step: both quotients are taken from the old pair.
+    pub fn step(self, digit: Digit, n: u32) -> Point {
+        let product = digit.times(self);
+        self + point(floor_quotient(product.x, n), floor_quotient(product.y, n))
+    }
+
+    /// M of the error bounds: the larger part in size.
+    pub fn larger_part(self) -> i128 {
+        self.x.abs().max(self.y.abs())
+    }
+}
+
+impl Add for Point {
+    type Output = Point;
+    fn add(self, other: Point) -> Point {
+        point(self.x + other.x, self.y + other.y)
+    }
+}
+
+impl Sub for Point {
+    type Output = Point;
+    fn sub(self, other: Point) -> Point {
+        point(self.x - other.x, self.y - other.y)
+    }
+}
