@@ -27,6 +27,7 @@ pub mod Gauss
 pub mod Reify
 pub mod Order
 pub mod Certificate
+pub mod Elimination
 pub mod Linear
 pub mod Inequality
 pub mod Range
