@@ -12,12 +12,12 @@ use Rattle.algebra.specs.Within.{Within, within-add, within-weaken, within-scal
 use Rattle.series.specs.Series.{D, D-pos, Sᵍ, Dᵍ, Dᶻ}
 use Rattle.series.specs.Tail.{TailBound, tail-within}
 
-module _ (T₀ p q c : ℕ) (tb : TailBound T₀ p q c) (c>0 : 0 < c) (U : ℕ) (U>0 : 0 < U) (z : 𝔾) (ρ : ℤ) (h : Within z ρ) (near : pos q *ℤ ρ ⩽ pos p *ℤ pos U) where
+module _ (T₀ p q c : ℕ) (tb : TailBound T₀ p q c) (c>0 : 0 < c) (U : ℕ) (U>0 : 0 < U) {z : 𝔾} {ρ : ℤ} (h : Within z ρ) (near : pos q *ℤ ρ ⩽ pos p *ℤ pos U) where
   pub carry : (k : ℕ) (w : 𝔾) (r m : ℤ) (n T : ℕ) → T₀ ≤ n → n ≤ T → Within (ιᵍ (pos k) *ᵍ Sᵍ U n z -ᵍ Dᵍ U n *ᵍ w) r → pos c *ℤ r +ℤ pos k *ℤ Dᶻ U n ⩽ pos c *ℤ (Dᶻ U n *ℤ m) → Within (ιᵍ (pos k) *ᵍ Sᵍ U T z -ᵍ Dᵍ U T *ᵍ w) (Dᶻ U T *ℤ m)
   carry k w r m n T i l g room = within-cancel (Dᶻ U n) (pos-mono (D-pos U U>0 n)) (within-cancel (pos c) (pos-mono c>0) (subst (λ x. Within x (pos c *ℤ (Dᶻ U n *ℤ (Dᶻ U T *ℤ m)))) shape (within-weaken both enough)))
     where
       both : Within (ιᵍ (pos k) *ᵍ (ιᵍ (pos c) *ᵍ (Dᵍ U n *ᵍ Sᵍ U T z -ᵍ Dᵍ U T *ᵍ Sᵍ U n z)) +ᵍ ιᵍ (pos c) *ᵍ (Dᵍ U T *ᵍ (ιᵍ (pos k) *ᵍ Sᵍ U n z -ᵍ Dᵍ U n *ᵍ w))) (pos k *ℤ (Dᶻ U n *ℤ Dᶻ U T) +ℤ pos c *ℤ (Dᶻ U T *ℤ r))
-      both = within-add (within-scale (pos k) (nonneg-pos k) (tail-within T₀ p q c tb U U>0 z ρ h near n T i l)) (within-scale (pos c) (nonneg-pos c) (within-scale (Dᶻ U T) (nonneg-pos (D U T)) g))
+      both = within-add (within-scale (pos k) (nonneg-pos k) (tail-within T₀ p q c tb U U>0 h near n T i l)) (within-scale (pos c) (nonneg-pos c) (within-scale (Dᶻ U T) (nonneg-pos (D U T)) g))
 
       enough : pos k *ℤ (Dᶻ U n *ℤ Dᶻ U T) +ℤ pos c *ℤ (Dᶻ U T *ℤ r) ⩽ pos c *ℤ (Dᶻ U n *ℤ (Dᶻ U T *ℤ m))
       enough = lin (pos k ∷ pos c ∷ r ∷ m ∷ Dᶻ U n ∷ Dᶻ U T ∷ []) (nonneg-mul (nonneg-pos (D U T)) (sub-nonneg room) & none) (search reify depth 20) tt

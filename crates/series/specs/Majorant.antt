@@ -9,7 +9,7 @@ use Rattle.algebra.specs.Gauss.{𝔾, 𝔾R, ιᵍ}
 use Rattle.algebra.specs.Within.{Within, within-add, within-pow, within-ι, within-scale}
 use Rattle.series.specs.Series.{D, S, Sᵍ, Sᶻ, tail, tail-self, tail-suc}
 
-module _ (U : ℕ) (z : 𝔾) (ρ : ℤ) (h : Within z ρ) where
+module _ (U : ℕ) {z : 𝔾} {ρ : ℤ} (h : Within z ρ) where
   pub within-S : (T : ℕ) → Within (Sᵍ U T z) (Sᶻ U T ρ)
   unfolding S
   within-S zero = within-ι (pos 0) (nonneg-pos 0)
@@ -22,4 +22,4 @@ module _ (U : ℕ) (z : 𝔾) (ρ : ℤ) (h : Within z ρ) where
       (within-scale (pos (U * suc T)) (nonneg-pos (U * suc T)) (within-add p (within-scale (pos (D U n)) (nonneg-pos (D U n)) (within-pow h T)))))
 
 pub tail-nonneg : (U n T : ℕ) (ρ : ℤ) → pos 0 ⩽ ρ → n ≤ T → pos 0 ⩽ tail ℤR U n T ρ
-tail-nonneg U n T ρ h k = within-tail U (ιᵍ ρ) ρ (within-ι ρ h) n T k .sign
+tail-nonneg U n T ρ h k = within-tail U (within-ι ρ h) n T k .sign

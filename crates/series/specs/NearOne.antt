@@ -18,7 +18,7 @@ use Rattle.series.specs.Decay.{decay}
 abbrev pub room : ℕ → ℤ → ℤ
 room U ρ = pos 2 *ℤ pos U -ℤ ρ
 
-module _ (U : ℕ) (z : 𝔾) (ρ : ℤ) (h : Within z ρ) (near : ρ ⩽ pos 2 *ℤ pos U) (T : ℕ) (T>0 : 1 ≤ T) where
+module _ (U : ℕ) {z : 𝔾} {ρ : ℤ} (h : Within z ρ) (near : ρ ⩽ pos 2 *ℤ pos U) (T : ℕ) (T>0 : 1 ≤ T) where
   -- from the first on each term is at most ρ/(2U) of the one before
   real : room U ρ *ℤ tail ℤR U 1 T ρ ⩽ pos U *ℤ (pos 2 *ℤ ρ *ℤ Dᶻ U T)
   real = lin (ρ ∷ pos U ∷ tail ℤR U 1 T ρ ∷ Dᶻ U T ∷ Dᶻ U 1 ∷ pw ℤR ρ T ∷ [])
@@ -27,7 +27,7 @@ module _ (U : ℕ) (z : 𝔾) (ρ : ℤ) (h : Within z ρ) (near : ρ ⩽ pos 2 
 
   pub near-one : 0 < U → Within (ιᵍ (room U ρ) *ᵍ (Sᵍ U T z -ᵍ Dᵍ U T)) (pos 2 *ℤ ρ *ℤ Dᶻ U T)
   near-one U>0 = within-cancel (pos U) (pos-mono U>0) (subst (λ w. Within w (pos U *ℤ (pos 2 *ℤ ρ *ℤ Dᶻ U T))) out
-      (within-weaken (within-scale (room U ρ) (sub-nonneg near) (within-tail U z ρ h 1 T T>0)) real))
+      (within-weaken (within-scale (room U ρ) (sub-nonneg near) (within-tail U h 1 T T>0)) real))
     where
       out : ιᵍ (room U ρ) *ᵍ tail 𝔾R U 1 T z ≡ ιᵍ (pos U) *ᵍ (ιᵍ (room U ρ) *ᵍ (Sᵍ U T z -ᵍ Dᵍ U T))
       out = ap (λ w. ιᵍ (room U ρ) *ᵍ w) (tail-one 𝔾R U T z) ∙ ring! 𝔾R (ιᵍ (room U ρ) ∷ ιᵍ (pos U) ∷ Sᵍ U T z ∷ Dᵍ U T ∷ []) (search reifyᵍ depth 20) tt

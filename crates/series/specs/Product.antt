@@ -32,12 +32,12 @@ module _ (U n : ℕ) where
   unfolding mono
   mono-nonneg ρ h k = nonneg-mul (nonneg-pos (co U n k)) (pw-nonneg h k)
 
-  within-mono : (z : 𝔾) (ρ : ℤ) → Within z ρ → (k : ℕ) → Within (mono 𝔾R U n z k) (mono ℤR U n ρ k)
+  within-mono : {z : 𝔾} {ρ : ℤ} → Within z ρ → (k : ℕ) → Within (mono 𝔾R U n z k) (mono ℤR U n ρ k)
   unfolding mono
-  within-mono z ρ h k = within-scale (pos (co U n k)) (nonneg-pos (co U n k)) (within-pow h k)
+  within-mono h k = within-scale (pos (co U n k)) (nonneg-pos (co U n k)) (within-pow h k)
 
-  within-corner : (a b : 𝔾) (α β : ℤ) → Within a α → Within b β → (m : ℕ) → Within (corner 𝔾R U n m a b) (corner ℤR U n m α β)
-  within-corner a b α β h g m = within-sum m (λ i _. within-sum i (λ j _. within-mul (within-mono a α h i) (within-mono b β g (m - i + j))))
+  within-corner : {a b : 𝔾} {α β : ℤ} → Within a α → Within b β → (m : ℕ) → Within (corner 𝔾R U n m a b) (corner ℤR U n m α β)
+  within-corner h g m = within-sum m (λ i _. within-sum i (λ j _. within-mul (within-mono h i) (within-mono g (m - i + j))))
 
   corner≤tail : 0 < U → (α β : ℤ) → pos 0 ⩽ α → pos 0 ⩽ β → (m : ℕ) → m + m ≤ n → Dᶻ U m *ℤ Dᶻ U m *ℤ corner ℤR U n m α β ⩽ Dᶻ U m *ℤ Dᶻ U n *ℤ tail ℤR U m n (α +ℤ β)
   unfolding tail
@@ -55,10 +55,10 @@ module _ (U n : ℕ) where
       inside = subst₂ _⩽_ (sym (sum-times-sum ℤR m m (mono ℤR U n α) (mono ℤR U n β))) (sym (sum-triangle ℤR n (λ i j. mono ℤR U n α i *ℤ mono ℤR U n β j)) ∙ triangle ℤR U n U>0 α β n (omega arith))
           (square≤triangle (λ i j. mono ℤR U n α i *ℤ mono ℤR U n β j) (λ i j. nonneg-mul (mono-nonneg α hα i) (mono-nonneg β hβ j)) m n fits)
 
-module _ (T₀ p q c : ℕ) (tb : TailBound T₀ p q c) (U : ℕ) (U>0 : 0 < U) (a b : 𝔾) (α β : ℤ) (h : Within a α) (g : Within b β) (near : pos q *ℤ (α +ℤ β) ⩽ pos p *ℤ pos U) (T : ℕ) (enough : T₀ ≤ T) where
+module _ (T₀ p q c : ℕ) (tb : TailBound T₀ p q c) (U : ℕ) (U>0 : 0 < U) {a b : 𝔾} {α β : ℤ} (h : Within a α) (g : Within b β) (near : pos q *ℤ (α +ℤ β) ⩽ pos p *ℤ pos U) (T : ℕ) (enough : T₀ ≤ T) where
   pub product : Within (ιᵍ (pos c) *ᵍ (Sᵍ U T a *ᵍ Sᵍ U T b -ᵍ Dᵍ U T *ᵍ Sᵍ U T (a +ᵍ b))) (Dᶻ U T *ℤ Dᶻ U T)
   product = within-cancel (e *ℤ e) (pos-mono (mul-pos (D-pos U U>0 n) (D-pos U U>0 n))) (subst (λ w. Within w (e *ℤ e *ℤ (d *ℤ d))) out
-      (within-weaken (within-scale (pos c *ℤ (d *ℤ d)) (nonneg-pos (c * (D U T * D U T))) (within-corner U n a b α β h g T)) real))
+      (within-weaken (within-scale (pos c *ℤ (d *ℤ d)) (nonneg-pos (c * (D U T * D U T))) (within-corner U n h g T)) real))
     where
       n : ℕ
       n = T + T

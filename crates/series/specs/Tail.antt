@@ -59,7 +59,7 @@ module _ (T₀ p q c : ℕ) (tb : TailBound T₀ p q c) (U : ℕ) (U>0 : 0 < U) 
       & nonneg-mul (nonneg-pos (c * D U T * a)) (tail-nonneg U T₀ n ρ ρ≥0 h) & none) (search reify depth 20) tt)
 
 -- the sums of n and of T terms differ by at most 1/c
-pub tail-within : (T₀ p q c : ℕ) → TailBound T₀ p q c → (U : ℕ) → 0 < U → (z : 𝔾) (ρ : ℤ) → Within z ρ → pos q *ℤ ρ ⩽ pos p *ℤ pos U → (n T : ℕ) → T₀ ≤ n → n ≤ T →
+pub tail-within : (T₀ p q c : ℕ) → TailBound T₀ p q c → (U : ℕ) → 0 < U → {z : 𝔾} {ρ : ℤ} → Within z ρ → pos q *ℤ ρ ⩽ pos p *ℤ pos U → (n T : ℕ) → T₀ ≤ n → n ≤ T →
     Within (ιᵍ (pos c) *ᵍ (Dᵍ U n *ᵍ Sᵍ U T z -ᵍ Dᵍ U T *ᵍ Sᵍ U n z)) (Dᶻ U n *ℤ Dᶻ U T)
 unfolding tail
-tail-within T₀ p q c tb U U>0 z ρ h near n T i k = within-weaken (within-scale (pos c) (nonneg-pos c) (within-tail U z ρ h n T k)) (tail-le T₀ p q c tb U U>0 ρ (h .sign) near n T i k)
+tail-within T₀ p q c tb U U>0 {ρ} h near n T i k = within-weaken (within-scale (pos c) (nonneg-pos c) (within-tail U h n T k)) (tail-le T₀ p q c tb U U>0 ρ (h .sign) near n T i k)
