@@ -1,10 +1,11 @@
--- Rounding: a shift right is the floor of the quotient (towards minus infinity, for negative numbers too), and floor(quotient + 1/2).
+-- Rounding: a shift right is the floor of the quotient (towards minus infinity, for negative numbers too); floor(quotient + 1/2); a quotient
+-- rounded up.
 use mathlib.Core.Path.{_≡_, ap}
 use mathlib.Core.List.{[], _∷_}
 use Prim.Native.Nat.{ℕ, _+_, _*_, _/_, _≤_, _<_}
 use native.Mathlib.Nat.{div-add-mod, div-one, mod-lt}
 use native.Mathlib.Omega.{arith}
-use lib.IntN.{ℤ, pos, negsuc, _+ℤ_, _*ℤ_}
+use lib.IntN.{ℤ, pos, negsuc, negℤ, _+ℤ_, _*ℤ_}
 use lib.Signed.{shrZ}
 use Rattle.algebra.specs.Reify.{reify}
 use Rattle.algebra.specs.Order.{_⩽_, pos-mono, ⩽-antisym}
@@ -50,3 +51,16 @@ module _ (m : ℕ) (h : 0 < m) where
   pub nearest-hi : (z : ℤ) → pos 2 *ℤ z +ℤ pos 1 ⩽ pos 2 *ℤ (pos m *ℤ nearest z m) +ℤ pos m
   unfolding nearest
   nearest-hi z = lin (pos m ∷ z ∷ nearest z m ∷ []) (floor-hi (2 * m) (omega arith) (pos 2 *ℤ z +ℤ pos m) & none) (search reify depth 20) tt
+
+-- ---- z/m rounded up: the least whole number that is not below it
+unfoldable pub ceiling : ℤ → ℕ → ℤ
+ceiling z m = negℤ (shrZ (negℤ z) m)
+
+module _ (m : ℕ) (h : 0 < m) where
+  pub ceiling-enough : (z : ℤ) → z ⩽ ceiling z m *ℤ pos m
+  unfolding ceiling
+  ceiling-enough z = lin (z ∷ pos m ∷ shrZ (negℤ z) m ∷ []) (floor-lo m h (negℤ z) & none) (search reify depth 20) tt
+
+  pub ceiling-least : (z c : ℤ) → z ⩽ c *ℤ pos m → ceiling z m ⩽ c
+  unfolding ceiling
+  ceiling-least z c k = below-next (pos m) (pos-mono h) (lin (z ∷ c ∷ pos m ∷ shrZ (negℤ z) m ∷ []) (floor-hi m h (negℤ z) & k & none) (search reify depth 20) tt)

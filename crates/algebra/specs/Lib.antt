@@ -37,4 +37,5 @@ pub mod Sum
 pub mod Binomial
 pub mod Within
 pub mod Parts
+pub mod Larger
 pub mod Examples

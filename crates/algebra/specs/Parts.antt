@@ -86,6 +86,12 @@ size-digit {d} {x} {b} e h = record {
   hi = lin (d ∷ x ∷ b ∷ []) (nonneg-mul (sub-nonneg (e .lo)) (sub-nonneg (h .hi)) & nonneg-mul (sub-nonneg (e .hi)) (sub-nonneg (h .lo)) & none) (search reify depth 20) tt;
 }
 
+-- |x|·c ≤ b from the size of c·x
+pub abs-scaled : {b : ℤ} (c x : ℤ) → Size (c *ℤ x) b → abs x *ℤ c ⩽ b
+unfolding abs
+abs-scaled {b} c (pos n) h = lin (pos n ∷ c ∷ b ∷ []) (h .hi & none) (search reify depth 20) tt
+abs-scaled {b} c (negsuc n) h = lin (pos n ∷ c ∷ b ∷ []) (h .lo & none) (search reify depth 20) tt
+
 pub size-sq : {x b : ℤ} → Size x b → x *ℤ x ⩽ b *ℤ b
 size-sq {x} {b} h = lin (x ∷ b ∷ []) (nonneg-mul (sub-nonneg (h .lo)) (sub-nonneg (h .hi)) & none) (search reify depth 20) tt
 
@@ -141,6 +147,20 @@ parts-cancel {z} {b} c l h = record {
   re = size-cancel c l (subst (λ t. Size t (c *ℤ b)) (scaled-re c z) (h .re));
   im = size-cancel c l (subst (λ t. Size t (c *ℤ b)) (scaled-im c z) (h .im));
 }
+
+-- each part of c · z at most b in size, as |part|·c ≤ b
+pub parts-abs : {b : ℤ} (c : ℤ) (z : 𝔾) → Parts (ιᵍ c *ᵍ z) b → (abs (z .re) *ℤ c ⩽ b) × (abs (z .im) *ℤ c ⩽ b)
+parts-abs {b} c z h = (
+  abs-scaled c (z .re) (subst (λ t. Size t b) (scaled-re c z) (h .re)),
+  abs-scaled c (z .im) (subst (λ t. Size t b) (scaled-im c z) (h .im)),
+)
+
+pub parts-zero : {b : ℤ} → pos 0 ⩽ b → Parts (ιᵍ (pos 0)) b
+unfolding ιᵍ
+parts-zero {b} h = record { re = nought; im = nought }
+  where
+    nought : Size (pos 0) b
+    nought = record { lo = neg-mono h; hi = h }
 
 -- a digit times z
 pub parts-digit : {d z : 𝔾} {b : ℤ} → Parts d (pos 1) → Parts z b → Parts (d *ᵍ z) (b +ℤ b)

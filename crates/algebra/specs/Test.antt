@@ -1,5 +1,5 @@
 -- Tests that the checker computes, and what each says once it has come out true.
-use mathlib.Core.Path.{sym, subst}
+use mathlib.Core.Path.{_≡_, refl, sym, subst}
 use mathlib.Core.Bool.{Bool, true, false, _&&_}
 use mathlib.Core.Logic.{⊎-elim}
 use Prim.Native.Nat.{ℕ, zero, suc, _<_}
@@ -13,6 +13,11 @@ and-left false b t = t
 pub and-right : (a b : Bool) → T (a && b) → T b
 and-right true b t = t
 and-right false b t = absurd t
+
+-- of tests that the code has made
+pub both-true : {a b : Bool} → a && b ≡ true → (a ≡ true) × (b ≡ true)
+both-true {a = true} e = (refl, e)
+both-true {a = false} e = absurd (subst T (sym e) tt)
 
 -- f 0 and … and f (n − 1)
 abbrev pub all : ℕ → (ℕ → Bool) → Bool

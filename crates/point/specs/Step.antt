@@ -9,7 +9,8 @@ use Rattle.algebra.specs.Order.{_⩽_, nonneg-pos}
 use Rattle.algebra.specs.Linear.{lin, _&_, none}
 use Rattle.algebra.specs.Power.{two, twoᵍ, two-pos}
 use Rattle.algebra.specs.Floor.{floor-lo, floor-hi}
-use Rattle.algebra.specs.Parts.{Parts, parts-cancel, parts-weaken}
+use Rattle.algebra.specs.Parts.{Size, Parts, parts-cancel, parts-weaken}
+use Rattle.word.specs.Shift.{size-shift}
 
 -- ---- the rounding of a step's quotients: v/2^n by floor
 unfoldable pub quotient : ℤ → ℕ → ℤ
@@ -27,6 +28,11 @@ quotient-law v n = record { below = floor-lo (2 ^ n) (two-pos n) v; near = floor
 -- so it is off by at most this many half units
 abbrev pub half-units : ℤ
 half-units = pos 2
+
+-- and no larger than v in size
+pub quotient-size : {v b : ℤ} (n : ℕ) → Size v b → Size (quotient v n) b
+unfolding quotient
+quotient-size n h = size-shift (2 ^ n) h
 
 -- ---- the step
 unfoldable pub step : ℕ → 𝔾 → 𝔾 → 𝔾

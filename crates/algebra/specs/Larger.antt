@@ -1,0 +1,26 @@
+-- The larger part of a complex number in size, M in the error bounds of 01.
+use mathlib.Core.Path.{_≡_}
+use mathlib.Core.Bool.{true, false, cond}
+use mathlib.Core.List.{[], _∷_}
+use lib.IntN.{ℤ}
+use lib.Signed.{leZ}
+use Rattle.algebra.specs.Gauss.{𝔾}
+use Rattle.algebra.specs.Reify.{reify}
+use Rattle.algebra.specs.Order.{_⩽_, ⩽-refl, tested}
+use Rattle.algebra.specs.Linear.{lin, _&_, none}
+use Rattle.algebra.specs.Parts.{Parts, abs, size-abs, abs-size}
+
+unfoldable pub larger : 𝔾 → ℤ
+larger z = cond (leZ (abs (z .re)) (abs (z .im))) (abs (z .im)) (abs (z .re))
+
+-- each part is at most M in size
+pub larger-parts : (z : 𝔾) → Parts z (larger z)
+unfolding larger
+larger-parts z = tested (λ t. Parts z (cond t (abs (z .im)) (abs (z .re)))) (abs (z .re)) (abs (z .im))
+    (λ h. record { re = abs-size h; im = abs-size (⩽-refl (abs (z .im))) })
+    (λ h. record { re = abs-size (⩽-refl (abs (z .re))); im = abs-size (lin (abs (z .re) ∷ abs (z .im) ∷ []) (h & none) (search reify depth 20) tt) })
+
+-- and M is the least number with that
+pub larger-le : {z : 𝔾} {b : ℤ} → Parts z b → larger z ⩽ b
+unfolding larger
+larger-le {z} {b} h = tested (λ t. cond t (abs (z .im)) (abs (z .re)) ⩽ b) (abs (z .re)) (abs (z .im)) (λ _. size-abs (h .im)) (λ _. size-abs (h .re))
