@@ -1,6 +1,6 @@
 -- Whatever a method makes fits a word, from the parts' sizes (01, Points and units: "on parts at most 2^61 in size, where none overflows").
 use Prim.Native.Nat.{ℕ}
-use lib.IntN.{ℤ, pos, _+ℤ_, _-ℤ_, _*ℤ_}
+use lib.IntN.{pos, _+ℤ_, _-ℤ_, _*ℤ_}
 use mir.Syntax.{w64}
 use mir.Val.{SFits}
 use Rattle.algebra.specs.Gauss.{𝔾}
