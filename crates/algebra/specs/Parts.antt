@@ -45,6 +45,9 @@ size-abs {x = negsuc n} {b} h = lin (pos n ∷ b ∷ []) (h .lo & none) (search 
 pub abs-size : {x b : ℤ} → abs x ⩽ b → Size x b
 abs-size {x} h = record { lo = ⩽-trans (neg-mono h) (neg-abs-le x); hi = ⩽-trans (le-abs x) h }
 
+pub abs-bound : {x b : ℤ} → Size x b → Size (abs x) b
+abs-bound {x} {b} h = record { lo = lin (abs x ∷ b ∷ []) (abs-nonneg x & size-abs h & none) (search reify depth 20) tt; hi = size-abs h }
+
 pub size-nat : {x : ℤ} {b : ℕ} → natAbs x ≤ b → Size x (pos b)
 unfolding abs
 size-nat h = abs-size (pos-mono h)

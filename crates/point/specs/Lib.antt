@@ -5,3 +5,4 @@ pub mod Step
 pub mod Fits
 pub mod Point
 pub mod Refusal
+pub mod Limits
