@@ -1,8 +1,7 @@
 -- `point::size` meets its contract.
-
-use Rattle.word.specs.Fits.{back, zero-sub, sfits-size}
-use Rattle.word.specs.Compare.{abs-negative, abs-nonnegative}
 use Rattle.algebra.specs.Parts.{abs-bound}
+use Rattle.word.specs.Fits.{back, sfits-size}
+use Rattle.word.specs.Compare.{abs-negative, abs-nonnegative}
 use Rattle.point.proofs.size.Statement.{statement}
 use Rattle.point.proofs.size.Tie as tie
 
