@@ -1,4 +1,5 @@
 -- Reciprocals ("seats", 01, LOG): for the cell of side 1/16 with centre (X + iY)/32 the number (a + ib)/64 near 32/(X + iY).
+use mathlib.Core.Path.{_≡_, refl}
 use lib.IntN.{ℤ, pos, negsuc, negℤ, _+ℤ_, _*ℤ_, natAbs}
 use Rattle.algebra.specs.Gauss.{𝔾, gi}
 use Rattle.algebra.specs.Order.{_⩽_}
@@ -18,3 +19,8 @@ pub record InTable (column row : ℤ) : Type 0 where
   pub right : column +ℤ pos 1 ⩽ pos 16
   pub low : negsuc 15 ⩽ row
   pub high : row +ℤ pos 1 ⩽ pos 16
+
+-- X = 17, Y = 1: (120 − 7i)/64 (01, Edges)
+example : reciprocal (pos 17) (pos 1) ≡ gi (pos 120) (negsuc 6)
+unfolding reciprocal nearest
+example = refl

@@ -1,0 +1,23 @@
+-- `tables::reciprocal` meets its contract: the look-up's, at the cell's number.
+use mathlib.Core.Path.{_∙_, ap, ap₂}
+use borrow.Author.Needs.{needs}
+use Rattle.word.specs.Fits.{back}
+use Rattle.tables.specs.Cell.{cellOf}
+use Rattle.tables.specs.Rows.{reciprocalAt, reciprocal-kept}
+use Rattle.tables.proofs.reciprocal.Statement.{statement}
+use Rattle.tables.proofs.reciprocal.Tie as tie
+
+cell-of-requires : tie.Need-cell-of-requires
+cell-of-requires c κs = search needs
+
+reciprocal-at-requires : tie.Need-reciprocal-at-requires
+reciprocal-at-requires c κs = search needs
+
+returns : tie.Need-returns
+returns c =
+    let s = c .before .before in
+    reciprocal-kept (s .args .column) (s .args .row)
+    (c .reciprocal-at .ensures ∙ ap reciprocalAt (c .before .cell-of .ensures .0 ∙ ap₂ cellOf (back (s .fits .column)) (back (s .fits .row))))
+
+pub reciprocal-spec : {M : Type 1} → statement M
+reciprocal-spec = tie.close (tie.spec cell-of-requires reciprocal-at-requires returns)

@@ -1,0 +1,298 @@
+#!/usr/bin/env python3
+"""Writes every number of crates/tables, in the source and in the specification, and the proofs that go over them arm by arm.
+
+generate.py writes; generate.py --check compares with what stands and fails on any difference.
+"""
+
+import functools
+import pathlib
+import sys
+
+HERE = pathlib.Path(__file__).resolve().parent
+sys.path.insert(0, str(HERE.parent))
+from make_tables import reciprocal_logs, reciprocals, step_table  # noqa: E402
+
+CRATE = HERE.parent.parent / "crates" / "tables"
+WIDTH = 48
+
+
+# ---- the specification's lists
+def whole(v):
+    return f"pos {v}" if v >= 0 else f"neg {-v}"
+
+
+def gauss(entry):
+    return "gi (%s) (%s)" % tuple(map(whole, entry))
+
+
+def listed(items, indent):
+    """Items of a list, one to a line."""
+    pad = " " * indent
+    return "".join(f"{pad}{'∷ ' if i else ''}{item}\n" for i, item in enumerate(items)) + f"{pad}∷ []"
+
+
+def row_of(entries):
+    return "(" + " ∷ ".join(map(gauss, entries)) + " ∷ [])"
+
+
+def nested(rows):
+    """A list of rows, four entries to a line."""
+    out = []
+    for row in rows:
+        chunks = [row[i:i + 4] for i in range(0, len(row), 4)]
+        out.append("(" + "\n    ".join(" ∷ ".join(map(gauss, c)) + " ∷" for c in chunks) + " [])")
+    return listed(out, 4)
+
+
+MADE = "Made by tests/tables/generate.py."
+SPEC_USES = """use mathlib.Core.List.{List, [], _∷_}
+use lib.IntN.{pos}
+use Rattle.algebra.specs.Gauss.{𝔾, gi}
+use Rattle.tables.specs.Listed.{neg}
+"""
+
+
+def numbers_spec():
+    steps = listed(["(" + "\n    ∷ ".join(row_of(row) for row in rows) + "\n    ∷ [])" for rows in step_table(WIDTH)], 4)
+    return f"""-- The two tables of logarithms at the width {WIDTH}, each part as the nearest whole number of units of 1/2^{WIDTH}. {MADE}
+{SPEC_USES}
+-- ln(1 + d/2^n): for each n from 1 to {WIDTH - 8} three rows by dx, each of three entries by dy, from −1 to 1 (01, The step)
+unfoldable pub stepLogs : List (List (List 𝔾))
+stepLogs =
+{steps}
+
+-- ln((a + ib)/64) for the reciprocals, in their order
+unfoldable pub reciprocalLogs : List (List 𝔾)
+reciprocalLogs =
+{nested(reciprocal_logs(WIDTH))}
+"""
+
+
+def reciprocals_spec():
+    return f"""-- The 256 reciprocals as they are stored, in 64ths: for each X from 17 to 31 by Y from −31 to 31. {MADE}
+{SPEC_USES}
+unfoldable pub reciprocals : List (List 𝔾)
+reciprocals =
+{nested(reciprocals())}
+"""
+
+
+# ---- the source
+PART = 10  # matrices of the step table to a constant
+
+
+def number_fields(entry):
+    fields = "re: %d, im: %d" % entry
+    if len(fields) <= 18:
+        return "Entry { %s }" % fields
+    return "Entry {\n    re: %d,\n    im: %d,\n}" % entry
+
+
+def indented(text, depth):
+    return text.replace("\n", "\n" + "    " * depth)
+
+
+def step_name(n, place):
+    return f"STEP_{n}_{('MINUS', 'ZERO', 'PLUS')[place]}"
+
+
+def source_head(about, definitions):
+    return f"""// {about} {MADE}
+ghost use mathlib.Core.Path.{{_≡_}};
+ghost use Prim.Native.Nat.{{_<_, _+_}};
+ghost use Rattle.tables.specs.Rows.{{{definitions}}};
+use crate::Entry;
+"""
+
+
+def parts():
+    """(number, first n) of each constant."""
+    return list(enumerate(range(1, WIDTH - 7, PART), 1))
+
+
+def array_parts():
+    """The array over n of three rows of three entries, and a reader of each constant."""
+    out = []
+    for number, first in parts():
+        matrices = "".join("    [%s],\n" % ", ".join(step_name(n, place) for place in range(3)) for n in range(first, first + PART))
+        out.append(f"\nconst PART_{number}: [[[Entry; 3]; 3]; {PART}] = [\n{matrices}];\n")
+    for number, first in parts():
+        out.append(f"""
+pub fn part_{number}(i: usize, place: usize) -> [Entry; 3]
+    requires {{ ⌜ (i < {PART}) × (place < 3) ⌝ }}
+    ensures {{ λ r. ⌜ r ≡ stepRow (i + {first}) (part place) ⌝ }}
+{{
+    PART_{number}[i][place]
+}}
+""")
+    return "\n// The array over n, each element three rows by dx of three entries by dy." + "".join(out)
+
+
+def steps_source():
+    out = [source_head(f"The step table at the width {WIDTH}: a named row for each n and dx, the array of the rows, and the look-up among them.", "stepRow, part, rowAt")]
+    none = "Entry { re: 0, im: 0 }"
+    out.append(f"""
+// What stands outside the table.
+pub const NO_STEP: [Entry; 3] = [
+    {none},
+    {none},
+    {none},
+];
+""")
+    for n, rows in enumerate(step_table(WIDTH), 1):
+        for place, row in enumerate(rows):
+            entries = "".join(f"    {indented(number_fields(e), 1)},\n" for e in row)
+            out.append(f"\npub const {step_name(n, place)}: [Entry; 3] = [\n{entries}];\n")
+    out.append(array_parts())
+    arms = "".join(f"        {3 * n + place} => {step_name(n, place)},\n" for n in range(1, WIDTH - 7) for place in range(3))
+    out.append(f"""
+// Three rows to an n. A `match` over named rows becomes a read-only table, where a constant array would be written out at each call.
+pub fn row_at(index: usize) -> [Entry; 3]
+    requires {{ ⌜ index < {3 * (WIDTH - 7)} ⌝ }}
+    ensures {{ λ r. ⌜ r ≡ rowAt index ⌝ }}
+{{
+    match index {{
+{arms}        _ => NO_STEP,
+    }}
+}}
+""")
+    return "".join(out)
+
+
+def cells_source(about, function, definition, table):
+    cells = [entry for column in table for entry in column]
+    arms = "".join(f"        {i} => {indented(number_fields(e), 2)},\n" for i, e in enumerate(cells))
+    return f"""{source_head(about, definition)}
+pub fn {function}(cell: usize) -> Entry
+    requires {{ ⌜ cell < {len(cells) + 1} ⌝ }}
+    ensures {{ λ r. ⌜ r ≡ {definition} cell ⌝ }}
+{{
+    match cell {{
+{arms}        _ => Entry {{ re: 0, im: 0 }},
+    }}
+}}
+"""
+
+
+def reciprocals_source():
+    return cells_source("The reciprocals by their cells.", "reciprocal_at", "reciprocalAt", reciprocals())
+
+
+def reciprocal_logs_source():
+    return cells_source(
+        f"The logarithms of the reciprocals at the width {WIDTH}, by their cells.", "reciprocal_log_at", "reciprocalLogAt", reciprocal_logs(WIDTH)
+    )
+
+
+# ---- the proofs of the look-ups: in each arm the number is known, and the specification computes there to the arm's entries
+def arms_proof(function, uses, unfolds, arm, last, count):
+    module = "Rattle.tables.proofs." + ".".join(function)
+    name = "-".join(function[-1].split("_")) + "-spec"
+    needs = ["returns"] + [f"returns-{i}" for i in range(2, count + 2)]
+    proofs = [arm % (i + 1) for i in range(count)] + [last]
+    answers = "".join(f"{need} : tie.Need-{need}\nunfolding {unfolds}\n{need} c = {proof}\n\n" for need, proof in zip(needs, proofs))
+    listed_needs = "\n".join("    " + need for need in needs)
+    return f"""-- `tables::{'::'.join(function)}` meets its contract: in each arm the number is known, and the specification computes there to what the arm
+-- answers. {MADE}
+{uses}use {module}.Statement.{{statement}}
+use {module}.Tie as tie
+
+{answers}pub {name} : {{M : Type 1}} → statement M
+{name} =
+    tie.close
+    (tie.spec
+{listed_needs})
+"""
+
+
+def steps_proof():
+    return arms_proof(
+        (f"steps{WIDTH}", "row_at"),
+        f"""use mathlib.Core.Path.{{sym, ap}}
+use Rattle.tables.specs.Numbers{WIDTH}.{{stepLogs}}
+use Rattle.tables.specs.Table.{{stepTable}}
+use Rattle.tables.specs.Rows.{{stepRow, rowAt, other-row}}
+""",
+        "stepRow stepTable stepLogs",
+        "ap rowAt (sym (c .match .keys%d))",
+        "other-row (c .before .args .index) (c .before .pre) (c .match .rest)",
+        3 * (WIDTH - 8),
+    )
+
+
+def part_proof(number, first):
+    module = f"Rattle.tables.proofs.steps{WIDTH}.part_{number}"
+    needs = ("mul-result", "mul-result-2", "index-1-result", "index-2-result")
+    answers = "".join(f"{need} : tie.Need-{need}\n{need} c = search needs\n\n" for need in needs)
+    return f"""-- `tables::steps{WIDTH}::part_{number}` meets its contract: the array is the specification's. {MADE}
+use borrow.Author.Needs.{{needs}}
+use Rattle.tables.specs.Numbers{WIDTH}.{{stepLogs}}
+use Rattle.tables.specs.Table.{{stepTable}}
+use Rattle.tables.specs.Rows.{{stepRow, matrices, matrices-at}}
+use {module}.Statement.{{statement}}
+use {module}.Tie as tie
+
+{answers}returns : tie.Need-returns
+unfolding stepRow matrices stepTable stepLogs
+returns c = let s = c .before in matrices-at {first} {PART} (s .args .i) (s .args .place) (s .pre .0) (s .pre .1)
+
+pub part-{number}-spec : {{M : Type 1}} → statement M
+part-{number}-spec = tie.close (tie.spec {' '.join(needs)} returns)
+"""
+
+
+def cells_proof(function, numbers, module, definition):
+    return arms_proof(
+        function,
+        f"""use mathlib.Core.Path.{{sym, ap}}
+use Rattle.tables.specs.{module}.{{{numbers}}}
+use Rattle.tables.specs.Rows.{{{definition}}}
+use Rattle.tables.specs.Match.{{last-cell}}
+""",
+        numbers,
+        f"ap {definition} (sym (c .match .keys%d))",
+        f"ap {definition} (last-cell (c .before .args .cell) (c .before .pre) (c .match .rest))",
+        256,
+    )
+
+
+def reciprocals_proof():
+    return cells_proof(("reciprocals", "reciprocal_at"), "reciprocals", "Reciprocals", "reciprocalAt")
+
+
+def reciprocal_logs_proof():
+    return cells_proof((f"reciprocal_logs{WIDTH}", "reciprocal_log_at"), "reciprocalLogs", f"Numbers{WIDTH}", "reciprocalLogAt")
+
+
+FILES = {
+    f"specs/Numbers{WIDTH}.antt": numbers_spec,
+    "specs/Reciprocals.antt": reciprocals_spec,
+    f"src/steps{WIDTH}.rt": steps_source,
+    "src/reciprocals.rt": reciprocals_source,
+    f"src/reciprocal_logs{WIDTH}.rt": reciprocal_logs_source,
+    f"proofs/steps{WIDTH}/row_at/Proof.antt": steps_proof,
+    "proofs/reciprocals/reciprocal_at/Proof.antt": reciprocals_proof,
+    f"proofs/reciprocal_logs{WIDTH}/reciprocal_log_at/Proof.antt": reciprocal_logs_proof,
+} | {
+    f"proofs/steps{WIDTH}/part_{number}/Proof.antt": functools.partial(part_proof, number, first) for number, first in parts()
+}
+
+
+def main(arguments):
+    if arguments not in ([], ["--check"]):
+        sys.exit("usage: generate.py [--check]")
+    stale = []
+    for name, make in FILES.items():
+        path, text = CRATE / name, make()
+        if arguments:
+            if not path.exists() or path.read_text(encoding="utf-8") != text:
+                stale.append(name)
+        else:
+            path.parent.mkdir(parents=True, exist_ok=True)
+            path.write_text(text, encoding="utf-8")
+    if stale:
+        sys.exit("not what generate.py writes: " + ", ".join(stale))
+
+
+if __name__ == "__main__":
+    main(sys.argv[1:])
