@@ -1,0 +1,142 @@
+// EXP: a start times the exponential of a number in a rectangle, by shifts and additions.
+ghost use mathlib.Core.Path.{_≡_};
+ghost use Prim.Native.Nat.{_≤_};
+ghost use lib.ListN.{getD};
+ghost use Rattle.algebra.specs.Gauss.{_-ᵍ_};
+ghost use Rattle.algebra.specs.Parts.{Parts};
+ghost use Rattle.algebra.specs.Power.{two};
+ghost use Rattle.point.specs.Point.{gauss, point, digit};
+ghost use Rattle.tables.specs.Listed.{place};
+ghost use Rattle.tables.specs.Rows.{number, none};
+ghost use Rattle.tables.specs.Table.{stepTable};
+ghost use Rattle.exponential.specs.Select.{cut, select};
+ghost use Rattle.exponential.specs.Run.{run};
+ghost use Rattle.exponential.specs.Convergence.{Rectangle};
+ghost use Rattle.exponential.specs.Answer.{errorBound, expAnswer, Close};
+use point::Digit;
+use point::Point;
+use point::Refusal;
+use tables::Entry;
+
+// The start times the exponential of the exponent, nearly, and a bound of the error in each part, in units.
+pub struct Figures {
+    pub value: Point,
+    pub error_bound: i64,
+}
+
+pub enum Answer {
+    Answered(Figures),
+    Refused(Refusal),
+}
+
+// -1 below lo, 1 from hi on, else 0.
+fn cut(lo: i64, hi: i64, x: i64) -> i64
+    ensures { λ r. ⌜ r ≡ cut lo hi x ⌝ }
+{
+    if x < lo {
+        -1
+    } else if x < hi {
+        0
+    } else {
+        1
+    }
+}
+
+// The digit of step n. Its thresholds are those of one, shifted: -1/2 and 3/8 for dx, -3/4 and 13/16 for dy.
+fn select(e: Point, n: usize) -> Digit
+    requires { ⌜ n ≤ 40 ⌝ }
+    ensures { λ r. ⌜ r ≡ digit (select 48 n (gauss e)) ⌝ }
+{
+    let x = e.x;
+    let y = e.y;
+    let low_x = -140737488355328 >> n;
+    let high_x = 105553116266496 >> n;
+    let low_y = -211106232532992 >> n;
+    let high_y = 228698418577408 >> n;
+    Digit {
+        dx: cut(low_x, high_x, x),
+        dy: cut(low_y, high_y, y),
+    }
+}
+
+// 8 M / 2^n rounded up, plus 3 n: M is the start's larger part in size.
+fn error_bound(n: usize, s: Point) -> i64
+    requires { ⌜ n ≤ 40 ⌝ }
+    requires { ⌜ Parts (gauss s) (two 58) ⌝ }
+    ensures { λ r. ⌜ r ≡ errorBound n (gauss s) ⌝ }
+{
+    let m = s.larger_part();
+    let down = (-8 * m) >> n;
+    let floors = 3 * (n as i64);
+    floors - down
+}
+
+// What the step of the exponent leaves: it loses the entry for dy of its row.
+fn less(e: Point, row: [Entry; 3], dy: i64) -> Point
+    requires { ⌜ Parts (gauss e) (two 61) ⌝ }
+    requires { ⌜ Parts (number (getD row (place dy) none)) (two 61) ⌝ }
+    ensures { λ r. ⌜ r ≡ point (gauss e -ᵍ number (getD row (place dy) none)) ⌝ }
+{
+    let x = e.x;
+    let y = e.y;
+    let entry = tables::pick(row, dy);
+    let re = entry.re;
+    let im = entry.im;
+    Point {
+        x: x - re,
+        y: y - im,
+    }
+}
+
+// The start after n steps.
+fn run(n: usize, exponent: Point, start: Point) -> Point
+    requires { ⌜ n ≤ 40 ⌝ }
+    requires { ⌜ Rectangle 48 (gauss exponent) ⌝ }
+    requires { ⌜ Parts (gauss start) (two 58) ⌝ }
+    ensures { λ r. ⌜ r ≡ point (run 48 stepTable (gauss exponent) n (gauss start)) ⌝ }
+{
+    let mut e = exponent;
+    let mut s = start;
+    let mut k: usize = 0;
+    while k < n {
+        let m = k + 1;
+        let d = select(e, m);
+        let dx = d.dx;
+        let dy = d.dy;
+        let row = tables::row(m, dx);
+        s = s.step(d, m);
+        e = less(e, row, dy);
+        k = m;
+    }
+    s
+}
+
+// The start times the exponential of the exponent, by n steps.
+pub fn exp(n: i64, exponent: Point, start: Point) -> Answer
+    ensures answer { λ r. ⌜ r ≡ expAnswer n (exponent .x) (exponent .y) (start .x) (start .y) ⌝ }
+    ensures close { λ r. ⌜ Close n (exponent .x) (exponent .y) (start .x) (start .y) r ⌝ }
+{
+    if !point::is_between(1, 40, n) {
+        return Answer::Refused(Refusal::Steps);
+    }
+    if !exponent.is_in_box(
+        -233096465088512,
+        241892558110720,
+        -206708186021888,
+        206708186021888,
+    ) {
+        return Answer::Refused(Refusal::Exponent);
+    }
+    if !start.is_in_box(
+        -288230376151711744,
+        288230376151711744,
+        -288230376151711744,
+        288230376151711744,
+    ) {
+        return Answer::Refused(Refusal::Part);
+    }
+    let steps = n as usize;
+    let value = run(steps, exponent, start);
+    let error_bound = error_bound(steps, start);
+    Answer::Answered(Figures { value, error_bound })
+}
