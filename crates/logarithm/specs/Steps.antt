@@ -1,0 +1,147 @@
+-- What the reduction hands to the run, and what the run needs and gives at each step: nothing overflows, and the state is that of the definition.
+use mathlib.Core.Path.{_≡_, refl, sym, _∙_, ap, ap₂, subst}
+use mathlib.Core.List.{[], _∷_}
+use Prim.Native.Nat.{ℕ, suc, _-_, _^_, _≤_, _<_}
+use native.Mathlib.Omega.{arith}
+use lib.Dec.{lit≤}
+use lib.IntN.{ℤ, pos, natAbs, _+ℤ_, _-ℤ_, _*ℤ_}
+use Rattle.algebra.specs.Gauss.{𝔾, _-ᵍ_, negᵍ}
+use Rattle.algebra.specs.Reify.{reify}
+use Rattle.algebra.specs.Order.{_⩽_, nonneg-pos}
+use Rattle.algebra.specs.Linear.{lin, _&_, none}
+use Rattle.algebra.specs.Power.{two, two-mono}
+use Rattle.algebra.specs.Within.{Within, within-neg}
+use Rattle.algebra.specs.Larger.{larger-le}
+use Rattle.algebra.specs.Parts.{Parts, parts-weaken, within-parts}
+use Rattle.point.specs.declared.Point.{Point}
+use Rattle.point.specs.Point.{gauss, point}
+use Rattle.point.specs.Limits.{steps-say, parts-say}
+use Rattle.point.specs.Digit.{IsDigit}
+use Rattle.point.specs.Step.{step}
+use Rattle.tables.specs.declared.Entry.{Entry}
+use Rattle.tables.specs.Reciprocal.{InTable}
+use Rattle.tables.specs.Promise.{look}
+use Rattle.tables.specs.Table.{stepTable, reciprocalTable}
+use Rattle.tables.specs.Promise48.{step-promise, reciprocal-promise}
+use Rattle.tables.specs.Rows.{entry, number}
+use Rattle.logarithm.specs.declared.State.{State}
+use Rattle.logarithm.specs.Quadrant.{turned, cone-pos}
+use Rattle.logarithm.specs.Scale.{bits, bit-length, binary-exponent, scaled, Scaled, scaled-ranges}
+use Rattle.logarithm.specs.Cell.{column, row, cellX, cellY, reciprocalOf, reciprocal-parts, in-table, reduced-near}
+use Rattle.logarithm.specs.Select.{half, select, select-digit}
+use Rattle.logarithm.specs.Run.{index, point-at, digit-at, answer-at}
+use Rattle.logarithm.specs.Convergence.{point-size}
+use Rattle.logarithm.specs.TablePart.{entry-within, answer-size, log-within}
+use Rattle.logarithm.specs.Answer.{errorBound}
+use Rattle.logarithm.specs.Laws.{Accepted, cone, M-is}
+use Rattle.logarithm.specs.Code.{ScalePre, ReducePre, begunOf, SelectPre, LessPre, RunPre, BoundPre, boundAt}
+
+-- ---- an accepted point
+module _ {n : ℕ} {p : Point} (a : Accepted 48 (pos n) (gauss p)) where
+  abbrev w : 𝔾
+  w = turned (gauss p)
+
+  pub turn-ok : Parts (gauss p) (two 61)
+  turn-ok = parts-weaken (parts-say 48 (gauss p) (a .parts)) (record { le = tt })
+
+  pub turned-pos : pos 1 ⩽ turned (gauss p) .re
+  turned-pos = cone-pos (cone 48 (lit≤ tt) a)
+
+  turned-small : turned (gauss p) .re ⩽ two 58
+  turned-small = subst (λ x. x ⩽ two 58) (sym (M-is 48 (lit≤ tt) a)) (larger-le (parts-say 48 (gauss p) (a .parts)))
+
+  pub scale-ok : ScalePre (point (turned (gauss p))) (bits (natAbs (turned (gauss p) .re)))
+  unfolding bit-length
+  scale-ok = record { cone = cone 48 (lit≤ tt) a; small = turned-small; length = refl }
+
+  pub count-ok : (3 ≤ n) × (n ≤ 40)
+  count-ok = let c = steps-say 48 3 (pos n) (a .steps) in (c .at-least, c .at-most)
+
+  pub bound-ok : BoundPre n (turned (gauss p) .re)
+  bound-ok = record { most = count-ok .1; size = record { lo = lin (w .re ∷ []) (turned-pos & none) (search reify depth 20) tt; hi = turned-small } }
+
+  -- k and the column, as the code makes them
+  pub exponent-made : pos (bits (natAbs (turned (gauss p) .re))) -ℤ pos 48 ≡ binary-exponent 48 (turned (gauss p))
+  unfolding binary-exponent bit-length
+  exponent-made = refl
+
+  pub bound-made : boundAt n (turned (gauss p) .re) ≡ errorBound n (gauss p)
+  unfolding errorBound
+  bound-made = ap (boundAt n) (M-is 48 (lit≤ tt) a)
+
+-- ---- the reduction
+module _ {w : Point} {b : ℕ} (s : ScalePre w b) where
+  abbrev p : 𝔾
+  p = scaled 48 (gauss w)
+
+  ranges : Scaled (two 48) p
+  ranges = scaled-ranges 48 (lit≤ tt) (gauss w) (s .cone)
+
+  pub scaled-parts : Parts (scaled 48 (gauss w)) (two 48)
+  scaled-parts = record {
+    re = record { lo = lin (p .re ∷ p .im ∷ []) (ranges .half & none) (search reify depth 20) tt; hi = lin (p .re ∷ []) (ranges .below & none) (search reify depth 20) tt };
+    im = record { lo = lin (p .re ∷ p .im ∷ []) (ranges .below & ranges .lo & none) (search reify depth 20) tt; hi = lin (p .re ∷ p .im ∷ []) (ranges .below & ranges .hi & none) (search reify depth 20) tt };
+  }
+
+  pub in-cell : InTable (column 48 (scaled 48 (gauss w))) (row 48 (scaled 48 (gauss w)))
+  in-cell = in-table 48 (lit≤ tt) p ranges
+
+  pub reduce-ok : (c : Entry) → number c ≡ reciprocalOf 48 (scaled 48 (gauss w)) → ReducePre (point (scaled 48 (gauss w))) c
+  reduce-ok c e = record { point = scaled-parts; factor = subst (λ z. Parts z (pos 124)) (sym e) (reciprocal-parts 48 (lit≤ tt) p ranges) }
+
+  log-size : Within (reciprocalTable (cellX 48 p) (cellY 48 p)) (pos 9 *ℤ half 48 2)
+  log-size = log-within 48 (lit≤ tt) (reciprocal-promise (column 48 p) (row 48 p) in-cell)
+
+  pub log-parts : Parts (reciprocalTable (cellX 48 (scaled 48 (gauss w))) (cellY 48 (scaled 48 (gauss w)))) (two 61)
+  log-parts = parts-weaken (within-parts log-size) (record { le = tt })
+
+  pub run-ok : (n : ℕ) → 3 ≤ n → n ≤ 40 → RunPre n (begunOf w)
+  run-ok n lo hi = record { least = omega arith; most = hi; near = reduced-near 48 (lit≤ tt) p ranges; short = within-neg log-size }
+
+-- ---- a step: the point v and the answer a after the steps 3 to k
+module _ {n : ℕ} {s : State} (p : RunPre n s) (k : ℕ) (lo : 2 ≤ k) (h : k < n) (v a : Point)
+    (at-v : gauss v ≡ point-at 48 (gauss (s .point)) (k - 2)) (at-a : gauss a ≡ answer-at 48 stepTable (gauss (s .point)) (gauss (s .answer)) (k - 2)) where
+  abbrev m : ℕ
+  m = k - 2
+
+  taken : suc m ≡ suc k - 2
+  taken = omega arith
+
+  numbered : index m ≡ suc k
+  numbered = omega arith
+
+  pub point-ok : Parts (gauss v) (two 61)
+  point-ok = subst (λ z. Parts z (two 61)) (sym at-v) (parts-weaken (point-size 48 (gauss (s .point)) (p .near) m (omega (arith, p .most))) (record { le = tt }))
+
+  pub select-ok : SelectPre v (suc k)
+  select-ok = record { parts = point-ok; most = omega (arith, p .most) }
+
+  pub digit-ok : IsDigit (select 48 (suc k) (gauss v))
+  digit-ok = select-digit 48 (suc k) (gauss v)
+
+  digit-same : select 48 (suc k) (gauss v) ≡ digit-at 48 (gauss (s .point)) m
+  unfolding digit-at
+  digit-same = ap₂ (select 48) (sym numbered) at-v
+
+  abbrev e : 𝔾
+  e = look stepTable (suc k) (select 48 (suc k) (gauss v))
+
+  entry-same : e ≡ look stepTable (index m) (digit-at 48 (gauss (s .point)) m)
+  entry-same = ap₂ (look stepTable) (sym numbered) digit-same
+
+  pub less-ok : LessPre a (entry (look stepTable (suc k) (select 48 (suc k) (gauss v))))
+  less-ok = record {
+    answer = subst (λ z. Parts z (two 61)) (sym at-a) (parts-weaken (within-parts (answer-size 48 40 stepTable step-promise (gauss (s .point)) (gauss (s .answer)) (p .short) m (omega (arith, p .most)) (omega (arith, p .most)))) (record { le = tt }));
+    entry = subst (λ z. Parts z (two 61)) (sym entry-same)
+        (parts-weaken (within-parts (entry-within 48 40 stepTable step-promise (gauss (s .point)) (gauss (s .answer)) (p .short) m (omega (arith, p .most)) (omega (arith, p .most))))
+        (lin (half 48 (index m) ∷ []) (two-mono (48 - suc (index m)) 48 (omega arith) & none) (search reify depth 20) tt));
+  }
+
+  -- after it
+  pub again-point : step (suc k) (select 48 (suc k) (gauss v)) (gauss v) ≡ point-at 48 (gauss (s .point)) (suc k - 2)
+  unfolding point-at
+  again-point = ap₂ (λ j z. step j (select 48 j z) z) (sym numbered) at-v ∙ ap (point-at 48 (gauss (s .point))) taken
+
+  pub again-answer : gauss a -ᵍ look stepTable (suc k) (select 48 (suc k) (gauss v)) ≡ answer-at 48 stepTable (gauss (s .point)) (gauss (s .answer)) (suc k - 2)
+  unfolding answer-at
+  again-answer = ap₂ _-ᵍ_ at-a entry-same ∙ ap (answer-at 48 stepTable (gauss (s .point)) (gauss (s .answer))) taken
