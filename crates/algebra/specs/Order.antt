@@ -1,12 +1,12 @@
 -- The order of ℤ: its laws with the sum, the product and the naturals, and tests of it.
 use mathlib.Core.Path.{_≡_, refl, sym, ap, subst, subst₂}
-use mathlib.Core.Bool.{Bool, true, false}
+use mathlib.Core.Bool.{Bool, true, false, not}
 use mathlib.Core.Logic.{_⊎_, inl, inr, ⊎-elim}
 use Prim.Native.Nat.{ℕ, zero, suc, _+_, _*_, _≤_, zero-le, suc-le-suc}
 use native.Mathlib.Nat.{le-of-suc-le-suc, le-trans, le-antisymm, not-suc-le-zero}
 use lib.Dec.{T, leb, leb→le, le→leb, ltb→lt, lt→ltb}
 use lib.IntN.{ℤ, pos, negsuc, sucℤ, predℤ, negℤ, _+ℤ_, _-ℤ_, _*ℤ_, +ℤ-idl, +ℤ-idr, +ℤ-sucℤ, +ℤ-predℤ, +ℤ-invr, +ℤ-one, -ℤ-+ℤ-cancel}
-use lib.Signed.{_≤ℤ_, _<ℤ_, leZ, ltZ, ≤ℤ-refl}
+use lib.Signed.{_≤ℤ_, _<ℤ_, leZ, ltZ, ltZ-yes, ltZ-no, ≤ℤ-refl}
 use Rattle.algebra.specs.Integer.{ind}
 
 -- `_≤ℤ_` binds tighter than the sum; this one is looser
@@ -142,7 +142,7 @@ suc-le (negsuc a) (negsuc (suc b)) = ⊎-elim (λ p. inl (record { le = p })) (�
 pub le-or-gt : (a b : ℤ) → (a ⩽ b) ⊎ (b +ℤ pos 1 ⩽ a)
 le-or-gt a b = ⊎-elim (λ p. inl p) (λ q. inr (subst (λ t. t ⩽ a) (sym (+ℤ-one b)) q)) (suc-le a b)
 
--- what is shown where a ≤ b, and where it fails, is shown of the test
+-- ---- what is shown where a ≤ b (a < b), and where that fails, is shown of the test
 pub tested : (P : Bool → Type 0) (a b : ℤ) → (a ⩽ b → P true) → (b +ℤ pos 1 ⩽ a → P false) → P (leZ a b)
 tested P a b passed failed = go (leZ a b) refl
   where
@@ -152,3 +152,10 @@ tested P a b passed failed = go (leZ a b) refl
     go : (t : Bool) → leZ a b ≡ t → P t
     go true e = passed (record { le = subst T (sym e) tt })
     go false e = failed (over e)
+
+pub tested< : (P : Bool → Type 0) (a b : ℤ) → (a ⋖ b → P true) → (b ⩽ a → P false) → P (ltZ a b)
+tested< P a b passed failed = go (ltZ a b) (λ t. ltZ-yes t) (λ t. ltZ-no t)
+  where
+    go : (t : Bool) → (T t → a ⋖ b) → (T (not t) → b ⩽ a) → P t
+    go true below above = passed (below tt)
+    go false below above = failed (above tt)

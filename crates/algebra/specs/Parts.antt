@@ -8,8 +8,8 @@ use lib.Signed.{shrZ}
 use Rattle.algebra.specs.Integer.{ℤR}
 use Rattle.algebra.specs.Gauss.{𝔾, gi, ιᵍ, negᵍ, _+ᵍ_, _-ᵍ_, _*ᵍ_}
 use Rattle.algebra.specs.Reify.{ring!, reify}
-use Rattle.algebra.specs.Order.{_⩽_, ⩽-refl, ⩽-trans, nonneg-mul, nonneg-pos, nonneg-sq, sub-nonneg, pos-mono}
-use Rattle.algebra.specs.Linear.{lin, _&_, none}
+use Rattle.algebra.specs.Order.{_⩽_, _⋖_, ⩽-refl, ⩽-trans, nonneg-add, nonneg-mul, nonneg-pos, nonneg-sq, sub-nonneg, pos-mono}
+use Rattle.algebra.specs.Linear.{lin, lin<, _&_, _&<_, none}
 use Rattle.algebra.specs.Inequality.{sq-le, le-cancel, neg-mono}
 use Rattle.algebra.specs.Within.{Within}
 use Rattle.algebra.specs.Floor.{floor-lo, floor-hi}
@@ -48,6 +48,16 @@ abs-size {x} h = record { lo = ⩽-trans (neg-mono h) (neg-abs-le x); hi = ⩽-t
 pub abs-bound : {x b : ℤ} → Size x b → Size (abs x) b
 abs-bound {x} {b} h = record { lo = lin (abs x ∷ b ∷ []) (abs-nonneg x & size-abs h & none) (search reify depth 20) tt; hi = size-abs h }
 
+-- strictly between −b and b
+pub abs-below : {x b : ℤ} → negℤ b ⋖ x → x ⋖ b → abs x ⋖ b
+abs-below {x} {b} lo hi = lin< (abs x ∷ b ∷ []) (size-abs {x = x} {b = b -ℤ pos 1} inside & none) (search reify depth 20) tt
+  where
+    inside : Size x (b -ℤ pos 1)
+    inside = record { lo = lin (x ∷ b ∷ []) (lo &< none) (search reify depth 20) tt; hi = lin (x ∷ b ∷ []) (hi &< none) (search reify depth 20) tt }
+
+pub below-size : {x b : ℤ} → abs x ⋖ b → Size x b
+below-size {x} {b} h = abs-size (lin (abs x ∷ b ∷ []) (h &< none) (search reify depth 20) tt)
+
 pub size-nat : {x : ℤ} {b : ℕ} → natAbs x ≤ b → Size x (pos b)
 unfolding abs
 size-nat h = abs-size (pos-mono h)
@@ -82,12 +92,15 @@ size-cancel {x} {b} c l h = record {
   hi = le-cancel c l (h .hi);
 }
 
+pub size-mul : {x y a b : ℤ} → Size x a → Size y b → Size (x *ℤ y) (a *ℤ b)
+size-mul {x} {y} {a} {b} h g = record {
+  lo = lin (x ∷ y ∷ a ∷ b ∷ []) (nonneg-mul (sub-nonneg (h .lo)) (sub-nonneg (g .lo)) & nonneg-mul (sub-nonneg (h .hi)) (sub-nonneg (g .hi)) & none) (search reify depth 20) tt;
+  hi = lin (x ∷ y ∷ a ∷ b ∷ []) (nonneg-mul (sub-nonneg (h .lo)) (sub-nonneg (g .hi)) & nonneg-mul (sub-nonneg (h .hi)) (sub-nonneg (g .lo)) & none) (search reify depth 20) tt;
+}
+
 -- times a number that is at most 1 in size
 pub size-digit : {d x b : ℤ} → Size d (pos 1) → Size x b → Size (d *ℤ x) b
-size-digit {d} {x} {b} e h = record {
-  lo = lin (d ∷ x ∷ b ∷ []) (nonneg-mul (sub-nonneg (e .lo)) (sub-nonneg (h .lo)) & nonneg-mul (sub-nonneg (e .hi)) (sub-nonneg (h .hi)) & none) (search reify depth 20) tt;
-  hi = lin (d ∷ x ∷ b ∷ []) (nonneg-mul (sub-nonneg (e .lo)) (sub-nonneg (h .hi)) & nonneg-mul (sub-nonneg (e .hi)) (sub-nonneg (h .lo)) & none) (search reify depth 20) tt;
-}
+size-digit {b} e h = size-weaken (size-mul e h) (lin (b ∷ []) none (search reify depth 20) tt)
 
 -- |x|·c ≤ b from the size of c·x
 pub abs-scaled : {b : ℤ} (c x : ℤ) → Size (c *ℤ x) b → abs x *ℤ c ⩽ b
@@ -196,4 +209,23 @@ unfolding ιᵍ _*ᵍ_
 parts-within {z} {b} h = record {
   sign = lin (b ∷ []) (size-sign (h .re) & none) (search reify depth 20) tt;
   size = lin (z .re ∷ z .im ∷ b ∷ []) (size-sq (h .re) & size-sq (h .im) & nonneg-sq b & none) (search reify depth 20) tt;
+}
+
+-- 91/64 for √2, where the bound is a multiple of 64
+pub parts-length : {z : 𝔾} (u : ℤ) → pos 0 ⩽ u → Parts z (pos 64 *ℤ u) → Within z (pos 91 *ℤ u)
+parts-length {z} u g p = record {
+  sign = nonneg-mul (nonneg-pos 91) g;
+  size = lin (u ∷ z .re ∷ z .im ∷ []) (size-sq (p .re) & size-sq (p .im) & nonneg-sq u & none) (search reify depth 20) tt;
+}
+
+-- the sum of the parts' sizes, a whole number, for the length
+abbrev pub sizes : 𝔾 → ℤ
+sizes z = abs (z .re) +ℤ abs (z .im)
+
+pub within-sizes : (z : 𝔾) → Within z (sizes z)
+within-sizes z = record {
+  sign = nonneg-add (abs-nonneg (z .re)) (abs-nonneg (z .im));
+  size = lin (z .re ∷ z .im ∷ abs (z .re) ∷ abs (z .im) ∷ [])
+      (nonneg-mul (sub-nonneg (le-abs (z .re))) (sub-nonneg (neg-abs-le (z .re))) & nonneg-mul (sub-nonneg (le-abs (z .im))) (sub-nonneg (neg-abs-le (z .im)))
+      & nonneg-mul (abs-nonneg (z .re)) (abs-nonneg (z .im)) & none) (search reify depth 20) tt;
 }

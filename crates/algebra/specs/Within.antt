@@ -56,6 +56,12 @@ within-weaken {z} {r} {s} p h = record {
   size = lin (z .re ∷ z .im ∷ r ∷ s ∷ []) (p .size & nonneg-mul (p .sign) (sub-nonneg h) & nonneg-sq (s -ℤ r) & none) (search reify depth 20) tt;
 }
 
+-- |z + w| ≤ 1 where |z| ≤ 8/9 and |w| ≤ 1/9
+pub N-ninths : (z w : 𝔾) → pos 8 *ℤ N (z +ᵍ w) ⩽ pos 9 *ℤ N z +ℤ pos 72 *ℤ N w
+unfolding _+ᵍ_
+N-ninths z w = lin (z .re ∷ z .im ∷ w .re ∷ w .im ∷ [])
+    (nonneg-sq (z .re -ℤ pos 8 *ℤ w .re) & nonneg-sq (z .im -ℤ pos 8 *ℤ w .im) & none) (search reify depth 20) tt
+
 -- ---- whole-number factors
 pub within-ι : (c : ℤ) → pos 0 ⩽ c → Within (ιᵍ c) c
 unfolding ιᵍ

@@ -12,11 +12,10 @@ use Rattle.algebra.specs.Order.{_⩽_, nonneg-mul, nonneg-pos, sub-nonneg}
 use Rattle.algebra.specs.Linear.{lin, _&_, _&≡_, none}
 use Rattle.algebra.specs.Power.{two, two≥1, two-mono, two-part}
 use Rattle.algebra.specs.Within.{Within}
-use Rattle.algebra.specs.Parts.{Size}
+use Rattle.algebra.specs.Parts.{Size, parts-length}
 use Rattle.point.specs.Digit.{Trit, t-, t0, t+, IsDigit}
 use Rattle.tables.specs.Window.{Span, Spans, pick, real, imag, Lies}
 use Rattle.tables.specs.Promise.{StepEntry}
-use Rattle.exponential.specs.Extra.{parts-length}
 
 -- ---- the windows end at 3217/2048 of h: one computed test for each step
 abbrev Ends : Span → Type 0

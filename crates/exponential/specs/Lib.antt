@@ -11,8 +11,6 @@
 --   Error            both together: 8M/2^N + floor-share·N
 --
 -- For the code: Size (the start stays small), Words (thresholds, entry and error bound as words), Loop (one step of the loop).
--- Extra has laws that name nothing of EXP.
-pub mod Extra
 pub mod Select
 pub mod Run
 pub mod Box

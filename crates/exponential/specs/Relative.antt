@@ -13,11 +13,10 @@ use Rattle.algebra.specs.Order.{_⩽_, nonneg-mul, nonneg-pos, sub-nonneg, pos-
 use Rattle.algebra.specs.Linear.{lin, _&_, _&≡_, none}
 use Rattle.algebra.specs.Power.{two, twoᵍ, two-pos, two≥1, two-mono, two-mul-le, two-part, two-whole}
 use Rattle.algebra.specs.Within.{Within, within-add, within-mul, within-ratio, within-ι}
-use Rattle.algebra.specs.Parts.{Parts, parts-weaken}
+use Rattle.algebra.specs.Parts.{Parts, parts-weaken, parts-length}
 use Rattle.series.specs.Series.{Sᵍ, Dᶻ, D-pos}
 use Rattle.series.specs.Laws.{laws-at}
 use Rattle.tables.specs.Promise.{StepTable, look, StepEntry, StepPromise}
-use Rattle.exponential.specs.Extra.{parts-length}
 use Rattle.exponential.specs.Select.{select}
 use Rattle.exponential.specs.Run.{residue, digit, digit-is}
 use Rattle.exponential.specs.Convergence.{Rectangle, below-parts, converges}

@@ -16,14 +16,13 @@ use Rattle.algebra.specs.Order.{_⩽_, nonneg-mul, nonneg-pos, sub-nonneg, pos-
 use Rattle.algebra.specs.Linear.{lin, lin<, _&_, none}
 use Rattle.algebra.specs.Power.{two, two-whole, two-mono}
 use Rattle.algebra.specs.Floor.{ceiling}
-use Rattle.algebra.specs.Parts.{Size, Parts, parts-weaken, size-add, size-neg, size-scale, floorᵍ, scaled-re, scaled-im}
+use Rattle.algebra.specs.Parts.{Size, Parts, parts-weaken, size-add, size-neg, size-scale, floorᵍ, scaled-re, scaled-im, size-mul}
 use Rattle.word.specs.Fits.{zero-sub, sfits-range, sfits-size, sfits-pos, sfits-neg}
 use Rattle.word.specs.Shift.{size-shift, shift-constant-word}
 use Rattle.point.specs.declared.Point.{Point}
 use Rattle.point.specs.Point.{gauss, point}
 use Rattle.tables.specs.declared.Entry.{Entry}
 use Rattle.tables.specs.Rows.{number}
-use Rattle.logarithm.specs.Extra.{size-mul}
 use Rattle.logarithm.specs.Quadrant.{turns-back, quarters, spelling, turn-is, cone-pos, cone-parts}
 use Rattle.logarithm.specs.Scale.{bit-length, scaled, up, down, length-law, length-le, scaled-exact}
 use Rattle.logarithm.specs.Select.{half}

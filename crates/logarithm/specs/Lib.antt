@@ -8,8 +8,7 @@
 -- The error, one share a file:
 --   Convergence (what is left of the point), FloorPart (what the floors cost), Factor and TablePart (what the tables cost), Together (the
 --   shares added up), Closeness (demand 3).
--- Laws is what a caller cites of the answer. Cases has the cases that 01 marks P. Extra has general laws that name nothing of LOG.
-pub mod Extra
+-- Laws is what a caller cites of the answer. Cases has the cases that 01 marks P.
 pub mod Quadrant
 pub mod Scale
 pub mod Cell

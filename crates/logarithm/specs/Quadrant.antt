@@ -12,12 +12,11 @@ use Rattle.algebra.specs.Ring.{pw}
 use Rattle.algebra.specs.Integer.{ℤR}
 use Rattle.algebra.specs.Gauss.{𝔾, 𝔾R, gi, gi-path, _*ᵍ_, negᵍ, ιᵍ, iᵍ, conj, g-mul-assoc, g-mul-comm, g-mul-one}
 use Rattle.algebra.specs.Reify.{ring!, reify}
-use Rattle.algebra.specs.Order.{_⩽_, _⋖_, ⩽-antisym, le-or-gt, tested}
+use Rattle.algebra.specs.Order.{_⩽_, _⋖_, ⩽-antisym, le-or-gt, tested, tested<}
 use Rattle.algebra.specs.Linear.{lin, lin<, lin-false, _&_, _&<_, none}
 use Rattle.algebra.specs.Within.{Within, within-pow}
 use Rattle.algebra.specs.Parts.{Size, Parts, size-neg}
 use Rattle.algebra.specs.Larger.{larger, larger-parts, larger-le}
-use Rattle.logarithm.specs.Extra.{tested<}
 
 -- ---- the definition
 -- a quarter turn back: times −i

@@ -2,7 +2,6 @@
 pub mod Window
 pub mod Reciprocal
 pub mod Promise
-pub mod Extra
 pub mod RuleTest
 pub mod Kept
 pub mod Listed

@@ -5,6 +5,7 @@ use Prim.Native.Nat.{ℕ, zero, suc, _*_, _^_, _≤_}
 use native.Mathlib.Nat.{le-refl, mul-pos}
 use lib.Dec.{lit<}
 use lib.IntN.{ℤ, pos, _+ℤ_, _*ℤ_}
+use Rattle.algebra.specs.Within.{N-ninths}
 use Rattle.algebra.specs.Ring.{pw}
 use Rattle.algebra.specs.Integer.{ℤR}
 use Rattle.algebra.specs.Gauss.{𝔾, 𝔾R, ιᵍ, _+ᵍ_, _-ᵍ_, _*ᵍ_, N, N-scale}
@@ -12,12 +13,11 @@ use Rattle.algebra.specs.Reify.{ring!, reify, reifyᵍ}
 use Rattle.algebra.specs.Order.{_⩽_, ⩽-trans, nonneg-mul, nonneg-pos, nonneg-sq, sub-nonneg, pos-mono}
 use Rattle.algebra.specs.Linear.{lin, _&_, none}
 use Rattle.algebra.specs.Inequality.{le-cancel}
-use Rattle.algebra.specs.Parts.{abs}
+use Rattle.algebra.specs.Parts.{abs, sizes, within-sizes}
 use Rattle.algebra.specs.Range.{Les}
 use Rattle.algebra.specs.Power.{two, two-pos}
 use Rattle.series.specs.Series.{D, D-pos, S, Sᵍ, Dᵍ, Dᶻ}
 use Rattle.series.specs.Laws.{Laws, laws, bound-2}
-use Rattle.tables.specs.Extra.{sizes, within-sizes, N-ninths}
 use Rattle.tables.specs.Promise.{Rule}
 
 -- ---- the sum with the next power beside it, to compute with
