@@ -2,7 +2,7 @@
 --   Select, Run      the digit of a step, the exponent and the start after n steps ("For n = 1 to N: ..")
 --   Answer           the limits, the error bound, the answer for every input, and what it is close to
 --   Close            when each refusal is given; the answer is close, with no hypothesis left
---   Bound, Cases     the error bound is the least whole number it can be; cases that the checker computes
+--   Bound, Cases     the error bound is the least whole number it can be; the limits by 01's numbers
 --
 -- The argument, over any width F and any table that keeps tables' promise:
 --   Convergence      after n steps each part of the exponent is below 1/2^n in size (Box: one step of one part)

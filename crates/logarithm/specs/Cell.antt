@@ -9,7 +9,7 @@ use lib.Dec.{T, lit<}
 use lib.IntN.{ℤ, pos, negsuc, negℤ, _+ℤ_, _-ℤ_, _*ℤ_}
 use lib.Signed.{shrZ}
 use Rattle.algebra.specs.Integer.{ℤR}
-use Rattle.algebra.specs.Gauss.{𝔾, gi, ιᵍ, negᵍ, _+ᵍ_, _-ᵍ_, _*ᵍ_, N}
+use Rattle.algebra.specs.Gauss.{𝔾, ιᵍ, negᵍ, _+ᵍ_, _-ᵍ_, _*ᵍ_, N}
 use Rattle.algebra.specs.Reify.{ring!, reify}
 use Rattle.algebra.specs.Order.{_⩽_, nonneg-mul, nonneg-pos, sub-nonneg}
 use Rattle.algebra.specs.Linear.{lin, _&_, _&≡_, none}

@@ -5,7 +5,7 @@ use mathlib.Core.List.{[], _∷_}
 use Prim.Native.Nat.{ℕ, suc, _+_, _-_, _^_, _≤_}
 use native.Mathlib.Nat.{pow-suc}
 use native.Mathlib.Omega.{arith}
-use lib.IntN.{ℤ, pos, _+ℤ_, _*ℤ_}
+use lib.IntN.{ℤ, pos, _*ℤ_}
 use Rattle.algebra.specs.Integer.{ℤR}
 use Rattle.algebra.specs.Gauss.{𝔾, 𝔾R, ιᵍ, negᵍ, _-ᵍ_, _*ᵍ_}
 use Rattle.algebra.specs.Reify.{ring!, reify, reifyᵍ}

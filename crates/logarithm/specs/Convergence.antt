@@ -14,7 +14,7 @@ use Rattle.algebra.specs.Power.{two, twoᵍ, two≥1, two-suc, two-mono, two-wh
 use Rattle.algebra.specs.Within.{within-ι}
 use Rattle.algebra.specs.Parts.{Parts, parts-add, parts-scale, parts-cancel, parts-weaken, parts-digit, within-parts}
 use Rattle.point.specs.Digit.{digit-parts}
-use Rattle.point.specs.Step.{step, off, step-error}
+use Rattle.point.specs.Step.{step, step-error}
 use Rattle.logarithm.specs.Select.{half, select, select-digit, select-near}
 use Rattle.logarithm.specs.Run.{index, point-at}
 

@@ -1,5 +1,5 @@
 -- That what the code makes fits a word, and is what the definitions say: the turn, the scale, the reciprocal, the digit and the error bound.
-use mathlib.Core.Path.{_≡_, refl, sym, _∙_, ap, ap₂, subst}
+use mathlib.Core.Path.{_≡_, sym, _∙_, ap, ap₂, subst}
 use mathlib.Core.List.{[], _∷_}
 use Prim.Native.Nat.{ℕ, suc, _-_, _/_, _^_, _≤_, _<_}
 use native.Mathlib.Nat.{pow-zero}
@@ -12,7 +12,7 @@ use mir.Val.{Fits, SFits, toZ}
 use Rattle.algebra.specs.Integer.{ℤR}
 use Rattle.algebra.specs.Gauss.{𝔾, gi-path, iᵍ, i-mul, conj, _*ᵍ_, ιᵍ}
 use Rattle.algebra.specs.Reify.{ring!, reify}
-use Rattle.algebra.specs.Order.{_⩽_, nonneg-mul, nonneg-pos, sub-nonneg, pos-mono, pos-inj-le}
+use Rattle.algebra.specs.Order.{_⩽_, nonneg-pos, pos-mono, pos-inj-le}
 use Rattle.algebra.specs.Linear.{lin, lin<, _&_, none}
 use Rattle.algebra.specs.Power.{two, two-whole, two-mono}
 use Rattle.algebra.specs.Floor.{ceiling}
@@ -22,7 +22,6 @@ use Rattle.word.specs.Shift.{size-shift, shift-constant-word}
 use Rattle.point.specs.declared.Point.{Point}
 use Rattle.point.specs.Point.{gauss, point}
 use Rattle.tables.specs.declared.Entry.{Entry}
-use Rattle.tables.specs.Rows.{number}
 use Rattle.logarithm.specs.Quadrant.{turns-back, quarters, spelling, turn-is, cone-pos, cone-parts}
 use Rattle.logarithm.specs.Scale.{bit-length, scaled, up, down, length-law, length-le, scaled-exact}
 use Rattle.logarithm.specs.Select.{half}

@@ -1,6 +1,6 @@
 -- The floor part: Q, the reciprocal times the factors 1 + d/2^n of the steps taken, as a fraction. Its length is at most 5/2, and the point after
 -- the steps is the scaled point times Q but for the floors, at most 2 (n − 1) units in each part after step n.
-use mathlib.Core.Path.{_≡_, sym, _∙_, ap, subst, subst₂}
+use mathlib.Core.Path.{_≡_, sym, subst, subst₂}
 use mathlib.Core.List.{[], _∷_}
 use Prim.Native.Nat.{ℕ, zero, suc, _*_, _^_, _<_}
 use native.Mathlib.Nat.{pow-suc, mul-pos}

@@ -8,7 +8,7 @@
 -- The error, one share a file:
 --   Convergence (what is left of the point), FloorPart (what the floors cost), Factor and TablePart (what the tables cost), Together (the
 --   shares added up), Closeness (demand 3).
--- Laws is what a caller cites of the answer. Cases has the cases that 01 marks P.
+-- Laws is what a caller cites of the answer.
 pub mod Quadrant
 pub mod Scale
 pub mod Cell
@@ -22,7 +22,6 @@ pub mod Together
 pub mod Closeness
 pub mod Answer
 pub mod Laws
-pub mod Cases
 pub mod Code
 pub mod Fits
 pub mod Steps

@@ -17,9 +17,9 @@ use Rattle.algebra.specs.Reify.{ring!, reify}
 use Rattle.algebra.specs.Order.{_⩽_, nonneg-mul, sub-nonneg, pos-mono, pos-inj-le}
 use Rattle.algebra.specs.Linear.{lin, lin-false, _&_, _&<_, _&≡_, none}
 use Rattle.algebra.specs.Inequality.{below-next}
-use Rattle.algebra.specs.Power.{two, twoᵍ, two-pos, two≥1, two-suc, two-split, two-reflects, below-two, le-or-lt}
+use Rattle.algebra.specs.Power.{two, two-pos, two≥1, two-suc, two-split, two-reflects, below-two, le-or-lt}
 use Rattle.algebra.specs.Floor.{floor-lo, floor-hi, floor-one}
-use Rattle.algebra.specs.Parts.{Parts, floorᵍ, parts-floor, scaled-re, scaled-im}
+use Rattle.algebra.specs.Parts.{Parts, floorᵍ, parts-floor}
 use Rattle.logarithm.specs.Quadrant.{Cone, cone-pos}
 
 -- ---- the definition

@@ -2,7 +2,7 @@
 use mathlib.Core.Path.{_≡_, ap, ap₂}
 use mathlib.Core.List.{[], _∷_}
 use mathlib.Core.Bool.{true, false, cond}
-use Prim.Native.Nat.{ℕ, suc, _-_, _^_}
+use Prim.Native.Nat.{ℕ, suc, _-_}
 use lib.IntN.{ℤ, pos, negsuc, negℤ, _+ℤ_, _-ℤ_, _*ℤ_}
 use lib.Signed.{leZ}
 use Rattle.algebra.specs.Gauss.{𝔾, gi, ιᵍ, negᵍ, _+ᵍ_, _-ᵍ_, _*ᵍ_}

@@ -1,13 +1,13 @@
 -- What the reduction hands to the run, and what the run needs and gives at each step: nothing overflows, and the state is that of the definition.
 use mathlib.Core.Path.{_≡_, refl, sym, _∙_, ap, ap₂, subst}
 use mathlib.Core.List.{[], _∷_}
-use Prim.Native.Nat.{ℕ, suc, _-_, _^_, _≤_, _<_}
+use Prim.Native.Nat.{ℕ, suc, _-_, _≤_, _<_}
 use native.Mathlib.Omega.{arith}
 use lib.Dec.{lit≤}
-use lib.IntN.{ℤ, pos, natAbs, _+ℤ_, _-ℤ_, _*ℤ_}
-use Rattle.algebra.specs.Gauss.{𝔾, _-ᵍ_, negᵍ}
+use lib.IntN.{pos, natAbs, _-ℤ_, _*ℤ_}
+use Rattle.algebra.specs.Gauss.{𝔾, _-ᵍ_}
 use Rattle.algebra.specs.Reify.{reify}
-use Rattle.algebra.specs.Order.{_⩽_, nonneg-pos}
+use Rattle.algebra.specs.Order.{_⩽_}
 use Rattle.algebra.specs.Linear.{lin, _&_, none}
 use Rattle.algebra.specs.Power.{two, two-mono}
 use Rattle.algebra.specs.Within.{Within, within-neg}

@@ -5,7 +5,7 @@ use native.Mathlib.Decide.{le-ind}
 use lib.IntN.{ℤ, pos}
 use Rattle.algebra.specs.Integer.{ℤR}
 use Rattle.algebra.specs.Order.{_⩽_, nonneg-pos}
-use Rattle.algebra.specs.Gauss.{𝔾, 𝔾R, ιᵍ}
+use Rattle.algebra.specs.Gauss.{𝔾, 𝔾R}
 use Rattle.algebra.specs.Within.{Within, within-add, within-pow, within-ι, within-scale}
 use Rattle.series.specs.Series.{D, S, Sᵍ, Sᶻ, tail, tail-self, tail-suc}
 

@@ -1,3 +1,4 @@
+-- `exponential::cut` meets its contract.
 use Rattle.word.specs.Fits.{back}
 use Rattle.exponential.proofs.cut.Statement.{statement}
 use Rattle.exponential.proofs.cut.Tie as tie

@@ -1,3 +1,4 @@
+-- `exponential::error_bound` meets its contract.
 use mathlib.Core.Path.{sym, subst}
 use native.Mathlib.Omega.{arith}
 use Rattle.algebra.specs.Parts.{parts-weaken}

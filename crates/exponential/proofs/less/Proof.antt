@@ -1,3 +1,4 @@
+-- `exponential::less` meets its contract.
 use mathlib.Core.Path.{_≡_}
 use lib.ListN.{getD}
 use Rattle.algebra.specs.Gauss.{_+ᵍ_, negᵍ}

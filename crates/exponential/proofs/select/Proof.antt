@@ -1,3 +1,4 @@
+-- `exponential::select` meets its contract.
 use mathlib.Core.Path.{_∙_}
 use Rattle.word.specs.Fits.{back, sfits-mag}
 use Rattle.exponential.specs.Select.{cut, select}

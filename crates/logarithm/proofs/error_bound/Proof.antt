@@ -1,5 +1,4 @@
 -- `logarithm::error_bound` meets its contract.
-use mathlib.Core.Path.{_∙_}
 use borrow.Author.Needs.{needs}
 use Rattle.word.specs.Fits.{back}
 use Rattle.logarithm.specs.Fits.{bound-fits}

@@ -1,7 +1,7 @@
 -- `logarithm::in_cone` meets its contract.
 use mathlib.Core.Path.{_≡_, sym, _∙_, ap, ap₂}
 use mathlib.Core.Bool.{true, false, _&&_}
-use lib.IntN.{pos, negℤ, _-ℤ_}
+use lib.IntN.{pos, _-ℤ_}
 use lib.Signed.{ltZ, leZ}
 use borrow.Author.Needs.{needs}
 use Rattle.word.specs.Fits.{back, zero-sub}

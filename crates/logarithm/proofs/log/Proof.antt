@@ -1,6 +1,6 @@
 -- `logarithm::log` meets its contract: its tests are those of the definition, in 01's order, and an answer is close.
 use mathlib.Core.Path.{_≡_, sym, _∙_, ap, subst}
-use mathlib.Core.Bool.{true, false}
+use mathlib.Core.Bool.{true}
 use native.Mathlib.Omega.{arith}
 use lib.IntN.{pos, natAbs}
 use borrow.Author.Needs.{needs}

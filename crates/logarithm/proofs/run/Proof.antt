@@ -1,12 +1,11 @@
 -- `logarithm::run` meets its contract. The invariant: k is from 2 to n, and the point and the answer are those after the steps 3 to k.
 use mathlib.Core.Path.{_≡_, refl, sym, _∙_, ap, ap₂, subst}
-use Prim.Native.Nat.{ℕ, suc, _+_, _-_, _≤_}
+use Prim.Native.Nat.{suc, _-_, _≤_}
 use native.Mathlib.Numerals.{add-one}
 use native.Mathlib.Omega.{arith}
 use lib.ListN.{getD}
-use Rattle.algebra.specs.Gauss.{𝔾, _-ᵍ_}
+use Rattle.algebra.specs.Gauss.{_-ᵍ_}
 use Rattle.word.specs.Fits.{back, sfits-mag}
-use Rattle.point.specs.declared.Point.{Point}
 use Rattle.point.specs.declared.Digit.{Digit}
 use Rattle.point.specs.Point.{gauss, gaussᵈ, point, digit}
 use Rattle.point.specs.Digit.{IsDigit}
@@ -17,7 +16,7 @@ use Rattle.tables.specs.Table.{stepTable}
 use Rattle.tables.specs.Rows.{entry, number, none, stepRow, row-entry}
 use Rattle.logarithm.specs.Select.{select}
 use Rattle.logarithm.specs.Run.{point-at, answer-at}
-use Rattle.logarithm.specs.Code.{SelectPre, LessPre, runOf}
+use Rattle.logarithm.specs.Code.{LessPre, runOf}
 use Rattle.logarithm.specs.Steps.{point-ok, select-ok, digit-ok, less-ok, again-point, again-answer}
 use Rattle.logarithm.proofs.run.Statement.{statement}
 use Rattle.logarithm.proofs.run.Tie as tie

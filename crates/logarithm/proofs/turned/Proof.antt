@@ -1,6 +1,6 @@
 -- `logarithm::turned` meets its contract: it makes the tests of the definition, one after the other.
 use mathlib.Core.Path.{_≡_, refl, sym, _∙_, ap}
-use mathlib.Core.Bool.{true, false}
+use mathlib.Core.Bool.{false}
 use borrow.Author.Needs.{needs}
 use Rattle.point.specs.Point.{gauss, point}
 use Rattle.logarithm.specs.Quadrant.{inCone, turn-back, turns-back, spelling, quarters-by, parts-turn-back}

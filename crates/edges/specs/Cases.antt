@@ -1,0 +1,131 @@
+-- The P cases of 01 as one table, proved by one statement that ranges over it. The checker computes each case by the definitions alone.
+use mathlib.Core.Path.{_≡_, refl}
+use mathlib.Core.List.{List, [], _∷_, _++_}
+use Prim.Native.Nat.{ℕ, zero, suc, _+_, _^_}
+use lib.IntN.{ℤ, pos, negℤ}
+use lib.ListN.{length}
+use Rattle.algebra.specs.Gauss.{𝔾, gi, ιᵍ, negᵍ, _+ᵍ_, _*ᵍ_}
+use Rattle.algebra.specs.Floor.{nearest}
+use Rattle.algebra.specs.Parts.{floorᵍ}
+use Rattle.word.specs.Compare.{between}
+use Rattle.point.specs.Refusal.{refusalNumber}
+use Rattle.point.specs.Step.{quotient, step}
+use Rattle.point.specs.Limits.{inSteps, inBox, inParts}
+use Rattle.tables.specs.Numbers48.{stepLogs}
+use Rattle.tables.specs.Reciprocal.{reciprocal}
+use Rattle.tables.specs.Table.{stepTable}
+use Rattle.exponential.specs.declared.Answer.{Answer as ExpAnswer}
+use Rattle.exponential.specs.declared.Answer.the-variants.{Answered as ExpAnswered, Refused as ExpRefused}
+use Rattle.exponential.specs.Select.{select as exp-select}
+use Rattle.exponential.specs.Run.{walk, residue, digit as exp-digit, run}
+use Rattle.exponential.specs.Answer.{inRectangle, answer, expAnswer}
+use Rattle.logarithm.specs.declared.Answer.{Answer as LogAnswer}
+use Rattle.logarithm.specs.declared.Answer.the-variants.{Answered as LogAnswered, Refused as LogRefused}
+use Rattle.logarithm.specs.Quadrant.{turn-back, turns-back, quarters, turned, spelling, quadrant}
+use Rattle.logarithm.specs.Scale.{bits-from, bits, bit-length, binary-exponent, scaled}
+use Rattle.logarithm.specs.Cell.{column, row, reduced}
+use Rattle.logarithm.specs.Select.{cut, select as log-select}
+use Rattle.logarithm.specs.Run.{point-at, digit-at as log-digit, begun}
+use Rattle.logarithm.specs.Answer.{isZero, answerTo, logAnswer}
+
+-- ---- what a case says
+pub data Case : Type 0 where
+  -- EXP of N, an exponent and a start, LOG of N and a point: the number that it is refused with, 0 where it is accepted
+  exp-refusal : (n : ℤ) (exponent start : 𝔾) (number : ℤ) → Case
+  log-refusal : (n : ℤ) (point : 𝔾) (number : ℤ) → Case
+  -- the digits that open it, from step 1 for EXP and from step 3 for LOG
+  exp-digits : (exponent : 𝔾) (digits : List 𝔾) → Case
+  log-digits : (point : 𝔾) (digits : List 𝔾) → Case
+  -- the start after some steps of an exponent
+  exp-start : (exponent start : 𝔾) (steps : ℕ) (after : 𝔾) → Case
+  -- q and k of a point
+  log-q : (point : 𝔾) (q : ℤ) → Case
+  log-k : (point : 𝔾) (k : ℤ) → Case
+  -- the seat of the cell with centre (X + iY)/32, in 64ths
+  seat : (X Y : ℤ) (number : 𝔾) → Case
+
+-- ---- the table: "What a case leaves unsaid: N is 40, the exponent nought, the start or the point one, the other part 0"
+abbrev one : 𝔾
+one = gi (pos (2 ^ 48)) (pos 0)
+
+abbrev nought : 𝔾
+nought = gi (pos 0) (pos 0)
+
+-- "(143552238122434, 81627743246090), which is 0.51 + 0.29i cut"
+abbrev figure : 𝔾
+figure = gi (pos 143552238122434) (pos 81627743246090)
+
+abbrev minus : ℕ → ℤ
+minus n = negℤ (pos n)
+
+abbrev pub cases : List Case
+cases =
+    -- "EXP ex 241892558110720 accepted; one more: 2"
+    exp-refusal (pos 40) (gi (pos 241892558110720) (pos 0)) one (pos 0)
+    ∷ exp-refusal (pos 40) (gi (pos 241892558110721) (pos 0)) one (pos 2)
+    -- "start part 2^58 and −2^58 accepted; 2^58 + 1 and −2^63: 3", in either part
+    ∷ exp-refusal (pos 40) nought (gi (pos (2 ^ 58)) (pos 0)) (pos 0)
+    ∷ exp-refusal (pos 40) nought (gi (minus (2 ^ 58)) (pos 0)) (pos 0)
+    ∷ exp-refusal (pos 40) nought (gi (pos (2 ^ 58 + 1)) (pos 0)) (pos 3)
+    ∷ exp-refusal (pos 40) nought (gi (minus (2 ^ 63)) (pos 0)) (pos 3)
+    ∷ exp-refusal (pos 40) nought (gi (pos 0) (pos (2 ^ 58))) (pos 0)
+    ∷ exp-refusal (pos 40) nought (gi (pos 0) (minus (2 ^ 58))) (pos 0)
+    ∷ exp-refusal (pos 40) nought (gi (pos 0) (pos (2 ^ 58 + 1))) (pos 3)
+    ∷ exp-refusal (pos 40) nought (gi (pos 0) (minus (2 ^ 63))) (pos 3)
+    -- "N = 0 with a bad exponent: 1. LOG N = 2: 1; N = 3 accepted"; the exponent is over 8, so it is bad under request E5 too
+    ∷ exp-refusal (pos 0) (gi (pos (2 ^ 51 + 1)) (pos 0)) one (pos 1)
+    ∷ log-refusal (pos 2) one (pos 1)
+    ∷ log-refusal (pos 3) one (pos 0)
+    -- "digits 1, 1+i, −1, i, i, 0, −1, 0 open it (figure 1 of 001)"
+    ∷ exp-digits figure
+        (gi (pos 1) (pos 0) ∷ gi (pos 1) (pos 1) ∷ gi (minus 1) (pos 0) ∷ gi (pos 0) (pos 1) ∷ gi (pos 0) (pos 1) ∷ nought ∷ gi (minus 1) (pos 0) ∷ nought ∷ [])
+    -- "one as its start after three of these steps: 1.640625 + 0.328125i", which is (105 + 21i)/64
+    ∷ exp-start figure one 3 (gi (pos 461794883665920) (pos 92358976733184))
+    -- "LOG of (0, 5): q = 1; (5, 5): 0; (5, −5): 3; (−1, 0): 2 and k = −47"
+    ∷ log-q (gi (pos 0) (pos 5)) (pos 1)
+    ∷ log-q (gi (pos 5) (pos 5)) (pos 0)
+    ∷ log-q (gi (pos 5) (minus 5)) (pos 3)
+    ∷ log-q (gi (minus 1) (pos 0)) (pos 2)
+    ∷ log-k (gi (minus 1) (pos 0)) (minus 47)
+    -- "cell X = 17, Y = 1: seat (120 − 7i)/64"
+    ∷ seat (pos 17) (pos 1) (gi (pos 120) (minus 7))
+    -- "LOG of one: k = 1, q = 0, digits 1, −1+i, 0 for n = 3, 4, 5"
+    ∷ log-k one (pos 1)
+    ∷ log-q one (pos 0)
+    ∷ log-digits one (gi (pos 1) (pos 0) ∷ gi (minus 1) (pos 1) ∷ nought ∷ [])
+    ∷ []
+
+-- ---- what it is for a case to hold
+abbrev exp-number : ExpAnswer → ℤ
+exp-number (ExpAnswered f) = pos 0
+exp-number (ExpRefused r) = refusalNumber r
+
+abbrev log-number : LogAnswer → ℤ
+log-number (LogAnswered f) = pos 0
+log-number (LogRefused r) = refusalNumber r
+
+-- f 0, …, f (n − 1)
+abbrev opening : (ℕ → 𝔾) → ℕ → List 𝔾
+opening f zero = []
+opening f (suc n) = opening f n ++ (f n ∷ [])
+
+abbrev pub Holds : Case → Type 0
+Holds (exp-refusal n e s r) = exp-number (expAnswer n (e .re) (e .im) (s .re) (s .im)) ≡ r
+Holds (log-refusal n p r) = log-number (logAnswer n (p .re) (p .im)) ≡ r
+Holds (exp-digits e ds) = opening (exp-digit 48 stepTable e) (length ds) ≡ ds
+Holds (log-digits p ds) = opening (log-digit 48 (begun 48 (turned p))) (length ds) ≡ ds
+Holds (exp-start e s n after) = run 48 stepTable e n s ≡ after
+Holds (log-q p q) = quadrant p ≡ q
+Holds (log-k p k) = binary-exponent 48 (turned p) ≡ k
+Holds (seat X Y c) = reciprocal X Y ≡ c
+
+abbrev pub All : List Case → Type 0
+All [] = Unit {0}
+All (c ∷ cs) = Holds c × All cs
+
+-- THE STATEMENT: every case of the table holds
+pub cases-hold : All cases
+unfolding expAnswer answer inSteps inRectangle inParts inBox between logAnswer answerTo isZero exp-digit residue exp-select stepTable stepLogs walk step quotient
+    quadrant spelling quarters turned turns-back turn-back binary-exponent bit-length bits bits-from scaled reduced column row reciprocal nearest floorᵍ
+    log-digit point-at log-select cut ιᵍ negᵍ _+ᵍ_ _*ᵍ_
+cases-hold = (refl, (refl, (refl, (refl, (refl, (refl, (refl, (refl, (refl, (refl, (refl, (refl, (refl, (refl, (refl, (refl, (refl, (refl, (refl, (refl, (refl, (refl, (refl, (refl, tt))))))))))))))))))))))))
