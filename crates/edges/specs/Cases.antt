@@ -78,7 +78,7 @@ cases =
     ∷ log-refusal (pos 3) one (pos 0)
     -- "digits 1, 1+i, −1, i, i, 0, −1, 0 open it (figure 1 of 001)"
     ∷ exp-digits figure
-        (gi (pos 1) (pos 0) ∷ gi (pos 1) (pos 1) ∷ gi (minus 1) (pos 0) ∷ gi (pos 0) (pos 1) ∷ gi (pos 0) (pos 1) ∷ nought ∷ gi (minus 1) (pos 0) ∷ nought ∷ [])
+    (gi (pos 1) (pos 0) ∷ gi (pos 1) (pos 1) ∷ gi (minus 1) (pos 0) ∷ gi (pos 0) (pos 1) ∷ gi (pos 0) (pos 1) ∷ nought ∷ gi (minus 1) (pos 0) ∷ nought ∷ [])
     -- "one as its start after three of these steps: 1.640625 + 0.328125i", which is (105 + 21i)/64
     ∷ exp-start figure one 3 (gi (pos 461794883665920) (pos 92358976733184))
     -- "LOG of (0, 5): q = 1; (5, 5): 0; (5, −5): 3; (−1, 0): 2 and k = −47"
