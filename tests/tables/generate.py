@@ -35,11 +35,11 @@ def row_of(entries):
     return "(" + " ∷ ".join(map(gauss, entries)) + " ∷ [])"
 
 
-def nested(rows):
-    """A list of rows, four entries to a line."""
+def nested(rows, width):
+    """A list of rows, so many entries to a line."""
     out = []
     for row in rows:
-        chunks = [row[i:i + 4] for i in range(0, len(row), 4)]
+        chunks = [row[i:i + width] for i in range(0, len(row), width)]
         out.append("(" + "\n    ".join(" ∷ ".join(map(gauss, c)) + " ∷" for c in chunks) + " [])")
     return listed(out, 4)
 
@@ -64,7 +64,7 @@ stepLogs =
 -- ln((a + ib)/64) for the reciprocals, in their order
 unfoldable pub reciprocalLogs : List (List 𝔾)
 reciprocalLogs =
-{nested(reciprocal_logs(WIDTH))}
+{nested(reciprocal_logs(WIDTH), 3)}
 """
 
 
@@ -73,7 +73,7 @@ def reciprocals_spec():
 {SPEC_USES}
 unfoldable pub reciprocals : List (List 𝔾)
 reciprocals =
-{nested(reciprocals())}
+{nested(reciprocals(), 4)}
 """
 
 
@@ -96,10 +96,10 @@ def step_name(n, place):
     return f"STEP_{n}_{('MINUS', 'ZERO', 'PLUS')[place]}"
 
 
-def source_head(about, definitions):
+def source_head(about, definitions, numbers="_<_"):
     return f"""// {about} {MADE}
 ghost use mathlib.Core.Path.{{_≡_}};
-ghost use Prim.Native.Nat.{{_<_, _+_}};
+ghost use Prim.Native.Nat.{{{numbers}}};
 ghost use Rattle.tables.specs.Rows.{{{definitions}}};
 use crate::Entry;
 """
@@ -129,7 +129,8 @@ pub fn part_{number}(i: usize, place: usize) -> [Entry; 3]
 
 
 def steps_source():
-    out = [source_head(f"The step table at the width {WIDTH}: a named row for each n and dx, the array of the rows, and the look-up among them.", "stepRow, part, rowAt")]
+    about = f"The step table at the width {WIDTH}: a named row for each n and dx, the array of the rows, and the look-up among them."
+    out = [source_head(about, "stepRow, part, rowAt", "_<_, _+_")]
     none = "Entry { re: 0, im: 0 }"
     out.append(f"""
 // What stands outside the table.

@@ -6,6 +6,7 @@ ghost use Rattle.algebra.specs.Gauss.{_-ᵍ_};
 ghost use Rattle.algebra.specs.Parts.{Parts};
 ghost use Rattle.algebra.specs.Power.{two};
 ghost use Rattle.point.specs.Point.{gauss, point, digit};
+ghost use Rattle.point.specs.Digit.{Trit};
 ghost use Rattle.tables.specs.Listed.{place};
 ghost use Rattle.tables.specs.Rows.{number, none};
 ghost use Rattle.tables.specs.Table.{stepTable};
@@ -49,10 +50,10 @@ fn select(e: Point, n: usize) -> Digit
 {
     let x = e.x;
     let y = e.y;
-    let low_x = -140737488355328 >> n;
-    let high_x = 105553116266496 >> n;
-    let low_y = -211106232532992 >> n;
-    let high_y = 228698418577408 >> n;
+    let low_x: i64 = -140737488355328 >> n;
+    let high_x: i64 = 105553116266496 >> n;
+    let low_y: i64 = -211106232532992 >> n;
+    let high_y: i64 = 228698418577408 >> n;
     Digit {
         dx: cut(low_x, high_x, x),
         dy: cut(low_y, high_y, y),
@@ -71,15 +72,17 @@ fn error_bound(n: usize, s: Point) -> i64
     floors - down
 }
 
-// What the step of the exponent leaves: it loses the entry for dy of its row.
+// What the step of the exponent leaves: it loses the entry for dy of its row. The place is dy + 1, without a branch.
 fn less(e: Point, row: [Entry; 3], dy: i64) -> Point
+    requires { ⌜ Trit dy ⌝ }
     requires { ⌜ Parts (gauss e) (two 61) ⌝ }
     requires { ⌜ Parts (number (getD row (place dy) none)) (two 61) ⌝ }
     ensures { λ r. ⌜ r ≡ point (gauss e -ᵍ number (getD row (place dy) none)) ⌝ }
 {
     let x = e.x;
     let y = e.y;
-    let entry = tables::pick(row, dy);
+    let at = (dy + 1) as usize;
+    let entry = row[at];
     let re = entry.re;
     let im = entry.im;
     Point {

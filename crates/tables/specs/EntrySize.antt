@@ -50,7 +50,8 @@ pub entry-size : (F n : ℕ) → 3 ≤ n → n + 8 ≤ F → {d z : 𝔾} → Is
 entry-size F n lo hi {z} k e = record {
   sign = nonneg-mul (nonneg-pos 2) (nonneg-pos (2 ^ (F - n)));
   size = lin (z .re ∷ z .im ∷ two (F - n) ∷ [])
-      (size-sq (part-size (reach-at (real n) (windows-short n lo .0) (k .x)) (e .re) room) & size-sq (part-size (reach-at (imag n) (windows-short n lo .1) (k .y)) (e .im) room) & nonneg-sq (two (F - n)) & none) (search reify depth 20) tt;
+      (size-sq (part-size (reach-at (real n) (windows-short n lo .0) (k .x)) (e .re) room)
+      & size-sq (part-size (reach-at (imag n) (windows-short n lo .1) (k .y)) (e .im) room) & nonneg-sq (two (F - n)) & none) (search reify depth 20) tt;
 }
   where
     room : pos 256 ⩽ two (F - n)

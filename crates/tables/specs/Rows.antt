@@ -1,8 +1,8 @@
 -- The tables as the code has them: a struct to an entry, three of them to a row; and the promise, said of what the code hands out.
 use mathlib.Core.Path.{_≡_, refl, sym, _∙_, ap, ap₂, subst}
 use mathlib.Core.List.{List, [], _∷_}
-use Prim.Native.Nat.{ℕ, zero, suc, _+_, _*_, _-_, _/_, _%_, _≤_, _<_}
 use mathlib.Core.Logic.{_⊎_, inl, inr, ⊎-elim}
+use Prim.Native.Nat.{ℕ, zero, suc, _+_, _*_, _-_, _/_, _%_, _≤_, _<_}
 use native.Mathlib.Nat.{not-suc-le-zero, le-of-suc-le-suc}
 use native.Mathlib.Omega.{arith}
 use lib.IntN.{ℤ, pos, negsuc}
@@ -140,12 +140,12 @@ pub reciprocal-is : (column row : ℤ) → ReciprocalIs column row (reciprocalAt
 unfolding storedReciprocal
 reciprocal-is column row i = stored-reciprocal column row i
 
+pub reciprocal-kept : (column row : ℤ) {e : Entry} → e ≡ reciprocalAt (cellOf column row) → (e ≡ reciprocalAt (cellOf column row)) × ReciprocalIs column row e
+reciprocal-kept column row h = (h, subst (λ w. ReciprocalIs column row w) (sym h) (reciprocal-is column row))
+
 -- its logarithm keeps the promise
 abbrev pub LogPromise : ℤ → ℤ → Entry → Type 0
 LogPromise column row e = InTable column row → ReciprocalEntry 48 (reciprocal (centre column) (centre row)) (number e)
-
-pub reciprocal-kept : (column row : ℤ) {e : Entry} → e ≡ reciprocalAt (cellOf column row) → (e ≡ reciprocalAt (cellOf column row)) × ReciprocalIs column row e
-reciprocal-kept column row h = (h, subst (λ w. ReciprocalIs column row w) (sym h) (reciprocal-is column row))
 
 pub log-promise : (column row : ℤ) → LogPromise column row (entry (reciprocalTable (centre column) (centre row)))
 log-promise column row i = reciprocal-promise column row i

@@ -29,7 +29,7 @@ abbrev pub terms : ℕ → 𝔾 → ℕ → Partial
 terms U z zero = record { sum = ιᵍ (pos 0); power = ιᵍ (pos 1) }
 terms U z (suc T) = let s = terms U z T in record { sum = ιᵍ (pos (U * suc T)) *ᵍ (s .sum +ᵍ s .power); power = s .power *ᵍ z }
 
-terms-are : (U : ℕ) (z : 𝔾) (T : ℕ) → terms U z T ≡ record { sum = Sᵍ U T z; power = pw 𝔾R z T }
+pub terms-are : (U : ℕ) (z : 𝔾) (T : ℕ) → terms U z T ≡ record { sum = Sᵍ U T z; power = pw 𝔾R z T }
 unfolding S
 terms-are U z zero = refl
 terms-are U z (suc T) = ap (λ s. record { sum = ιᵍ (pos (U * suc T)) *ᵍ (s .sum +ᵍ s .power); power = s .power *ᵍ z }) (terms-are U z T)
@@ -74,7 +74,8 @@ module _ (F m : ℕ) (c z : 𝔾) where
   split : (T : ℕ) → ιᵍ (Dᶻ U 24) *ᵍ off m c (D U T) (Sᵍ U T z) ≡ ιᵍ (Dᶻ U T) *ᵍ off m c (D U 24) (Sᵍ U 24 z) +ᵍ ιᵍ (pos m) *ᵍ rest T
   split T = ring! 𝔾R (ιᵍ (pos m) ∷ c ∷ Dᵍ U 24 ∷ Dᵍ U T ∷ Sᵍ U T z ∷ Sᵍ U 24 z ∷ []) (search reifyᵍ depth 20) tt
 
-  both : (T : ℕ) → pos 8 *ℤ (Dᶻ U 24 *ℤ Dᶻ U 24 *ℤ N (off m c (D U T) (Sᵍ U T z))) ⩽ pos 9 *ℤ (Dᶻ U T *ℤ Dᶻ U T *ℤ N (off m c (D U 24) (Sᵍ U 24 z))) +ℤ pos 72 *ℤ (pos m *ℤ pos m *ℤ N (rest T))
+  both : (T : ℕ) → pos 8 *ℤ (Dᶻ U 24 *ℤ Dᶻ U 24 *ℤ N (off m c (D U T) (Sᵍ U T z)))
+      ⩽ pos 9 *ℤ (Dᶻ U T *ℤ Dᶻ U T *ℤ N (off m c (D U 24) (Sᵍ U 24 z))) +ℤ pos 72 *ℤ (pos m *ℤ pos m *ℤ N (rest T))
   both T = subst₂ (λ a b. pos 8 *ℤ a ⩽ b)
       (ap N (sym (split T)) ∙ N-scale (Dᶻ U 24) (off m c (D U T) (Sᵍ U T z)))
       (ap₂ (λ a b. pos 9 *ℤ a +ℤ pos 72 *ℤ b) (N-scale (Dᶻ U T) (off m c (D U 24) (Sᵍ U 24 z))) (N-scale (pos m) (rest T)))

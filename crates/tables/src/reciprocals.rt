@@ -1,6 +1,6 @@
 // The reciprocals by their cells. Made by tests/tables/generate.py.
 ghost use mathlib.Core.Path.{_≡_};
-ghost use Prim.Native.Nat.{_<_, _+_};
+ghost use Prim.Native.Nat.{_<_};
 ghost use Rattle.tables.specs.Rows.{reciprocalAt};
 use crate::Entry;
 

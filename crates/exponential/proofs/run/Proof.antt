@@ -3,8 +3,13 @@ use mathlib.Core.Path.{_≡_, refl, _∙_, ap}
 use Prim.Native.Nat.{_≤_, _-_}
 use native.Mathlib.Numerals.{add-one}
 use native.Mathlib.Omega.{arith}
-use Rattle.point.specs.Point.{gauss, point}
+use mir.Syntax.{w64}
+use mir.Val.{toZ, ofZ}
+use Rattle.point.specs.Point.{gauss, gaussᵈ, point, digit}
+use Rattle.point.specs.Step.{step}
 use Rattle.tables.specs.Table.{stepTable}
+use Rattle.tables.specs.Rows.{stepRow}
+use Rattle.exponential.specs.Select.{select}
 use Rattle.exponential.specs.Run.{residue, run, walk}
 use Rattle.exponential.specs.Loop.{Turn, is-digit, dy-word, start-size, exponent-size, entry-size, next-exponent, next-start}
 use Rattle.exponential.proofs.run.Statement.{statement}
@@ -23,8 +28,8 @@ turn : (c : tie.After-row Inv-loop μ-loop) → let l = c .before .before .befor
 turn c = let l = c .before .before .before .before .before in record {
   exponent = l .loop .inv .1 .0;
   start = l .loop .inv .1 .1;
-  chosen = rw add-one at (c .before .before .before .select .ensures);
-  found = rw add-one at (c .row .ensures .0);
+  chosen = c .before .before .before .select .ensures ∙ ap (λ m. digit (select 48 m (gauss (l .loop .e)))) (add-one (l .loop .k));
+  found = c .row .ensures .0 ∙ ap (λ m. stepRow m (toZ w64 (ofZ w64 (c .before .before .before .select .result .dx)))) (add-one (l .loop .k));
 }
 
 loop-holds : tie.Need-loop-holds Inv-loop μ-loop
@@ -49,15 +54,20 @@ less-requires : tie.Need-less-requires Inv-loop μ-loop
 less-requires c κs =
     let t = turn (c .before) in
     let s = c .before .before .before .before .before .before .before in
-    rw (dy-word t) (exponent-size t (omega arith) (s .pre .1 .0), entry-size t (omega arith))
+    rw (dy-word t) (is-digit t .y, (exponent-size t (omega arith) (s .pre .1 .0), entry-size t (omega arith)))
 
 loop-less : tie.Need-loop-less Inv-loop μ-loop
 loop-less c = omega arith
 
 loop-again : tie.Need-loop-again Inv-loop μ-loop
 loop-again c =
-    let t = turn (c .before .before) in
-    (omega arith, rw add-one (simp (dy-word t) at (c .less .ensures) ∙ next-exponent t, (rw add-one at (c .before .step .ensures)) ∙ next-start t))
+    let r = c .before .before in
+    let l = r .before .before .before .before .before in
+    let t = turn r in
+    let one = add-one (l .loop .k) in
+    let e = simp (dy-word t) at (c .less .ensures) in
+    let s = c .before .step .ensures ∙ ap (λ m. point (step m (gaussᵈ (r .before .before .before .select .result)) (gauss (l .loop .s)))) one in
+    (omega arith, rw one (e ∙ next-exponent t, s ∙ next-start t))
 
 returns : tie.Need-returns Inv-loop μ-loop
 returns c =
