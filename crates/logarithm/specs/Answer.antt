@@ -39,7 +39,11 @@ figures r b = record { x = r .z .re; y = r .z .im; «binary_exponent» = r .k; q
 
 -- "first 1, N outside 3 to 40; then 3, a part over 2^58 in size; then 4, the zero point"
 unfoldable pub answerTo : ℕ → StepTable → ReciprocalTable → ℤ → 𝔾 → Answer
-answerTo F steps logs n p = unless (inSteps F 3 n) Steps (unless (inParts F p) Part (unless (not (isZero p)) Zero (Answered (figures (log F steps logs (natAbs n) p) (errorBound (natAbs n) p)))))
+answerTo F steps logs n p =
+    unless (inSteps F 3 n) Steps
+    (unless (inParts F p) Part
+    (unless (not (isZero p)) Zero
+    (Answered (figures (log F steps logs (natAbs n) p) (errorBound (natAbs n) p)))))
 
 -- of log (n, (x, y))
 unfoldable pub logAnswer : ℤ → ℤ → ℤ → Answer

@@ -17,7 +17,7 @@ use Rattle.algebra.specs.Inequality.{below-next}
 use Rattle.algebra.specs.Test.{all}
 use Rattle.algebra.specs.Range.{les, Les, les-say, all-from}
 use Rattle.algebra.specs.Power.{two, twoᵍ, two-pos, two-whole, two-mono}
-use Rattle.algebra.specs.Floor.{floor-lo, floor-hi, nearest}
+use Rattle.algebra.specs.Floor.{floor-lo, floor-hi, floor-unique, nearest}
 use Rattle.algebra.specs.Parts.{Parts, floorᵍ, parts-floor, within-parts}
 use Rattle.tables.specs.Reciprocal.{reciprocal, centre, InTable}
 use Rattle.logarithm.specs.Scale.{Scaled}
@@ -48,6 +48,16 @@ reciprocalOf F p = reciprocal (cellX F p) (cellY F p)
 -- "The point is multiplied by a + ib and each part floored by 64"
 unfoldable pub reduced : ℕ → 𝔾 → 𝔾
 reduced F p = floorᵍ (reciprocalOf F p *ᵍ p) 64
+
+-- "a cell owns its lower edges": no other cell holds the point
+module _ (F : ℕ) (p : 𝔾) (m : ℤ) where
+  pub column-unique : pos (side F) *ℤ m ⩽ p .re → p .re +ℤ pos 1 ⩽ pos (side F) *ℤ m +ℤ pos (side F) → column F p ≡ m
+  unfolding column
+  column-unique lo hi = floor-unique (side F) (two-pos (F - 4)) (p .re) m lo hi
+
+  pub row-unique : pos (side F) *ℤ m ⩽ p .im → p .im +ℤ pos 1 ⩽ pos (side F) *ℤ m +ℤ pos (side F) → row F p ≡ m
+  unfolding row
+  row-unique lo hi = floor-unique (side F) (two-pos (F - 4)) (p .im) m lo hi
 
 -- the floor's error, times 64
 pub reduced-error : (F : ℕ) (p : 𝔾) → Parts (reciprocalOf F p *ᵍ p -ᵍ ιᵍ (pos 64) *ᵍ reduced F p) (pos 64)
@@ -105,7 +115,8 @@ cell-law m n i = record { left = f .0; right = f .1 .0; low = f .1 .1 .0; high =
   where
     f : Les (facts m n (reciprocal (centre m) (centre n)))
     f = les-say (facts m n (reciprocal (centre m) (centre n)))
-        (all-from (negsuc 15) 32 (λ n. cell-ok m n) (all-from (pos 8) 8 (λ m. all 32 (λ j. cell-ok m (negsuc 15 +ℤ pos j))) cells-ok m (i .left) (i .right)) n (i .low) (i .high))
+        (all-from (negsuc 15) 32 (λ n. cell-ok m n) (all-from (pos 8) 8 (λ m. all 32 (λ j. cell-ok m (negsuc 15 +ℤ pos j))) cells-ok m (i .left) (i .right)) n
+        (i .low) (i .high))
 
 -- ---- inside a cell: k r + p s + q t, 0 ≤ s, t ≤ k
 over-times : (p s k : ℤ) → pos 0 ⩽ s → s ⩽ k → p *ℤ s ⩽ over p *ℤ k
@@ -118,10 +129,12 @@ under-times (negsuc n) s k s≥0 s≤k = lin (pos n ∷ s ∷ k ∷ []) (nonneg-
 
 module _ (r p q k s t : ℤ) (k≥0 : pos 0 ⩽ k) (s≥0 : pos 0 ⩽ s) (s≤k : s ⩽ k) (t≥0 : pos 0 ⩽ t) (t≤k : t ⩽ k) where
   inside-lo : (lo : ℤ) → lo ⩽ least r p q → k *ℤ lo ⩽ k *ℤ r +ℤ p *ℤ s +ℤ q *ℤ t
-  inside-lo lo h = lin (lo ∷ r ∷ p ∷ q ∷ k ∷ s ∷ t ∷ under p ∷ under q ∷ []) (nonneg-mul k≥0 (sub-nonneg h) & under-times p s k s≥0 s≤k & under-times q t k t≥0 t≤k & none) (search reify depth 20) tt
+  inside-lo lo h = lin (lo ∷ r ∷ p ∷ q ∷ k ∷ s ∷ t ∷ under p ∷ under q ∷ [])
+      (nonneg-mul k≥0 (sub-nonneg h) & under-times p s k s≥0 s≤k & under-times q t k t≥0 t≤k & none) (search reify depth 20) tt
 
   inside-hi : (hi : ℤ) → greatest r p q ⩽ hi → k *ℤ r +ℤ p *ℤ s +ℤ q *ℤ t ⩽ k *ℤ hi
-  inside-hi hi h = lin (hi ∷ r ∷ p ∷ q ∷ k ∷ s ∷ t ∷ over p ∷ over q ∷ []) (nonneg-mul k≥0 (sub-nonneg h) & over-times p s k s≥0 s≤k & over-times q t k t≥0 t≤k & none) (search reify depth 20) tt
+  inside-hi hi h = lin (hi ∷ r ∷ p ∷ q ∷ k ∷ s ∷ t ∷ over p ∷ over q ∷ [])
+      (nonneg-mul k≥0 (sub-nonneg h) & over-times p s k s≥0 s≤k & over-times q t k t≥0 t≤k & none) (search reify depth 20) tt
 
 -- ---- a scaled point: its cell, and where it is brought
 module _ (F : ℕ) (wide : 10 ≤ F) (p : 𝔾) (h : Scaled (two F) p) where
@@ -172,9 +185,11 @@ module _ (F : ℕ) (wide : 10 ≤ F) (p : 𝔾) (h : Scaled (two F) p) where
   unfolding m n
   in-table = record {
     left = below-next {a = pos 8} {b = m} k k≥1 (lin (k ∷ m ∷ p .re ∷ two F ∷ []) (m-hi & h .half & one-is &≡ none) (search reify depth 20) tt);
-    right = lin (m ∷ []) (below-next {a = m} {b = pos 15} k k≥1 (lin (k ∷ m ∷ p .re ∷ two F ∷ []) (m-lo & h .below & one-is &≡ none) (search reify depth 20) tt) & none) (search reify depth 20) tt;
+    right = lin (m ∷ []) (below-next {a = m} {b = pos 15} k k≥1 (lin (k ∷ m ∷ p .re ∷ two F ∷ []) (m-lo & h .below & one-is &≡ none) (search reify depth 20) tt)
+        & none) (search reify depth 20) tt;
     low = below-next {a = negsuc 15} {b = n} k k≥1 (lin (k ∷ n ∷ p .re ∷ p .im ∷ two F ∷ []) (n-hi & h .below & h .lo & one-is &≡ none) (search reify depth 20) tt);
-    high = lin (n ∷ []) (below-next {a = n} {b = pos 15} k k≥1 (lin (k ∷ n ∷ p .re ∷ p .im ∷ two F ∷ []) (n-lo & h .below & h .hi & one-is &≡ none) (search reify depth 20) tt) & none) (search reify depth 20) tt;
+    high = lin (n ∷ []) (below-next {a = n} {b = pos 15} k k≥1
+        (lin (k ∷ n ∷ p .re ∷ p .im ∷ two F ∷ []) (n-lo & h .below & h .hi & one-is &≡ none) (search reify depth 20) tt) & none) (search reify depth 20) tt;
   }
 
   here : Cell m n (reciprocalOf F p)
@@ -217,19 +232,23 @@ module _ (F : ℕ) (wide : 10 ≤ F) (p : 𝔾) (h : Scaled (two F) p) where
 
     re-lo : k *ℤ pos 913 ⩽ z .re
     unfolding s t z _*ᵍ_
-    re-lo = lin (k ∷ m ∷ n ∷ p .re ∷ p .im ∷ c .re ∷ c .im ∷ []) (inside-lo (cornerX m n c) (c .re) (negℤ (c .im)) k s t k≥0 s≥0 s≤k t≥0 t≤k (pos 913) (e .left) & none) (search reify depth 20) tt
+    re-lo = lin (k ∷ m ∷ n ∷ p .re ∷ p .im ∷ c .re ∷ c .im ∷ [])
+        (inside-lo (cornerX m n c) (c .re) (negℤ (c .im)) k s t k≥0 s≥0 s≤k t≥0 t≤k (pos 913) (e .left) & none) (search reify depth 20) tt
 
     re-hi : z .re ⩽ k *ℤ pos 1136
     unfolding s t z _*ᵍ_
-    re-hi = lin (k ∷ m ∷ n ∷ p .re ∷ p .im ∷ c .re ∷ c .im ∷ []) (inside-hi (cornerX m n c) (c .re) (negℤ (c .im)) k s t k≥0 s≥0 s≤k t≥0 t≤k (pos 1136) (e .right) & none) (search reify depth 20) tt
+    re-hi = lin (k ∷ m ∷ n ∷ p .re ∷ p .im ∷ c .re ∷ c .im ∷ [])
+        (inside-hi (cornerX m n c) (c .re) (negℤ (c .im)) k s t k≥0 s≥0 s≤k t≥0 t≤k (pos 1136) (e .right) & none) (search reify depth 20) tt
 
     im-lo : k *ℤ negsuc 110 ⩽ z .im
     unfolding s t z _*ᵍ_
-    im-lo = lin (k ∷ m ∷ n ∷ p .re ∷ p .im ∷ c .re ∷ c .im ∷ []) (inside-lo (cornerY m n c) (c .im) (c .re) k s t k≥0 s≥0 s≤k t≥0 t≤k (negsuc 110) (e .low) & none) (search reify depth 20) tt
+    im-lo = lin (k ∷ m ∷ n ∷ p .re ∷ p .im ∷ c .re ∷ c .im ∷ [])
+        (inside-lo (cornerY m n c) (c .im) (c .re) k s t k≥0 s≥0 s≤k t≥0 t≤k (negsuc 110) (e .low) & none) (search reify depth 20) tt
 
     im-hi : z .im ⩽ k *ℤ pos 111
     unfolding s t z _*ᵍ_
-    im-hi = lin (k ∷ m ∷ n ∷ p .re ∷ p .im ∷ c .re ∷ c .im ∷ []) (inside-hi (cornerY m n c) (c .im) (c .re) k s t k≥0 s≥0 s≤k t≥0 t≤k (pos 111) (e .high) & none) (search reify depth 20) tt
+    im-hi = lin (k ∷ m ∷ n ∷ p .re ∷ p .im ∷ c .re ∷ c .im ∷ [])
+        (inside-hi (cornerY m n c) (c .im) (c .re) k s t k≥0 s≥0 s≤k t≥0 t≤k (pos 111) (e .high) & none) (search reify depth 20) tt
 
     near : Parts (ιᵍ (pos 64) *ᵍ (floorᵍ z 64 -ᵍ twoᵍ F)) (pos 7 *ℤ two F)
     unfolding floorᵍ ιᵍ negᵍ _+ᵍ_ _*ᵍ_
@@ -254,8 +273,14 @@ module _ (F : ℕ) (wide : 10 ≤ F) (p : 𝔾) (h : Scaled (two F) p) where
   pub product-parts : Parts (reciprocalOf F p *ᵍ p) (pos 71 *ℤ two F)
   unfolding z
   product-parts = record {
-    re = record { lo = lin (x ∷ k ∷ two F ∷ []) (re-lo (reciprocalOf F p) here & one-is &≡ k≥64 & none) (search reify depth 20) tt; hi = lin (x ∷ k ∷ two F ∷ []) (re-hi (reciprocalOf F p) here & one-is &≡ none) (search reify depth 20) tt };
-    im = record { lo = lin (y ∷ k ∷ two F ∷ []) (im-lo (reciprocalOf F p) here & one-is &≡ k≥64 & none) (search reify depth 20) tt; hi = lin (y ∷ k ∷ two F ∷ []) (im-hi (reciprocalOf F p) here & one-is &≡ k≥64 & none) (search reify depth 20) tt };
+    re = record {
+      lo = lin (x ∷ k ∷ two F ∷ []) (re-lo (reciprocalOf F p) here & one-is &≡ k≥64 & none) (search reify depth 20) tt;
+      hi = lin (x ∷ k ∷ two F ∷ []) (re-hi (reciprocalOf F p) here & one-is &≡ none) (search reify depth 20) tt;
+    };
+    im = record {
+      lo = lin (y ∷ k ∷ two F ∷ []) (im-lo (reciprocalOf F p) here & one-is &≡ k≥64 & none) (search reify depth 20) tt;
+      hi = lin (y ∷ k ∷ two F ∷ []) (im-hi (reciprocalOf F p) here & one-is &≡ k≥64 & none) (search reify depth 20) tt;
+    };
   }
     where
       x : ℤ

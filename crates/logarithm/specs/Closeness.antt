@@ -41,7 +41,8 @@ pub record CloseAt (F N T : ℕ) (p : 𝔾) (r : Log) : Type 0 where
 close-parts : (F N T : ℕ) (p : 𝔾) (r : Log) → Parts (twoᵍ N *ᵍ miss F T p r) (pos 3 *ℤ larger p *ℤ Dᶻ (2 ^ F) T) → CloseAt F N T p r
 close-parts F N T p r h = let g = parts-abs (two N) (miss F T p r) h in record { re = g .0; im = g .1 }
 
-module _ (F : ℕ) (narrow : F ≤ 48) (M : ℕ) (steps : StepTable) (logs : ReciprocalTable) (entries : StepPromise F M steps) (reciprocals : ReciprocalPromise F logs) (T : ℕ) (enough : 24 ≤ T) where
+module _ (F : ℕ) (narrow : F ≤ 48) (M : ℕ) (steps : StepTable) (logs : ReciprocalTable) (entries : StepPromise F M steps)
+    (reciprocals : ReciprocalPromise F logs) (T : ℕ) (enough : 24 ≤ T) where
   -- ---- of the turned point w, after the steps 3 to j + 3
   module _ (j : ℕ) (fits : j + 11 ≤ F) (reach : j + 3 ≤ M) (w : 𝔾) (cone : Cone w) where
     p : 𝔾
@@ -71,18 +72,22 @@ module _ (F : ℕ) (narrow : F ≤ 48) (M : ℕ) (steps : StepTable) (logs : Rec
 
     U-is : two F ≡ pos 4 *ℤ t *ℤ Z
     unfolding t Z
-    U-is = one-halves F (suc (index j)) (omega arith) ∙ ap (λ x. pos 2 *ℤ x *ℤ half F (suc (index j))) (two-suc (index j)) ∙ ring! ℤR (two (index j) ∷ half F (suc (index j)) ∷ []) (search reify depth 20) tt
+    U-is = one-halves F (suc (index j)) (omega arith) ∙ ap (λ x. pos 2 *ℤ x *ℤ half F (suc (index j))) (two-suc (index j)) ∙ ring! ℤR
+        (two (index j) ∷ half F (suc (index j)) ∷ []) (search reify depth 20) tt
 
-    turned-error : Within (twoᵍ (index j) *ᵍ (w *ᵍ Dᵍ (2 ^ F) T -ᵍ ιᵍ (two (bit-length w)) *ᵍ Sᵍ (2 ^ F) T (answer-of F steps logs (suc j) w))) (pos 3 *ℤ w .re *ℤ Dᶻ (2 ^ F) T)
+    turned-error : Within (twoᵍ (index j) *ᵍ (w *ᵍ Dᵍ (2 ^ F) T -ᵍ ιᵍ (two (bit-length w)) *ᵍ Sᵍ (2 ^ F) T (answer-of F steps logs (suc j) w)))
+        (pos 3 *ℤ w .re *ℤ Dᶻ (2 ^ F) T)
     unfolding Z t p v c s
-    turned-error = together (two F) Z t (pos (suc (suc j))) (pos (up F (bit-length w))) (pos (down F (bit-length w))) (two (bit-length w)) (pos (denom (suc j))) (Dᶻ (2 ^ F) T) (w .re)
+    turned-error = together (two F) Z t (pos (suc (suc j))) (pos (up F (bit-length w))) (pos (down F (bit-length w))) (two (bit-length w)) (pos (denom (suc j)))
+        (Dᶻ (2 ^ F) T) (w .re)
         w p (point-at F v (suc j)) (numer F v c (suc j)) (Sᵍ (2 ^ F) T (answer-of F steps logs (suc j) w))
         U-is (ap pos (up-down F (bit-length w))) (half-large F (suc (index j)) 6 (omega arith)) (two-mono 3 (index j) (omega arith))
         (nonneg-pos (suc (suc j))) (pos-mono (omega arith)) (pos-mono (omega (arith, below-two (suc j), pow-suc 2 (suc j), pow-suc 2 (suc (suc j)))))
         (two≥1 (bit-length w - F)) (pos-mono (denom-pos (suc j))) (nonneg-pos (D (2 ^ F) T)) (lin (w .re ∷ []) (cone-pos cone & none) (search reify depth 20) tt)
         (cone-parts cone) (scaled-error F w) (floors F p v c (reduced-error F p) (suc j)) (converges F v (reduced-near F (omega arith) p ranges) j (omega arith))
         (numer-within F v c (reciprocal-size F (omega arith) p ranges) (suc j))
-        (answer-near F narrow M steps entries v c s (reciprocals (column F p) (row F p) cell) T enough (omega arith) (reciprocal-size F (omega arith) p ranges) (suc j) (omega arith) (omega arith))
+        (answer-near F narrow M steps entries v c s (reciprocals (column F p) (row F p) cell) T enough (omega arith) (reciprocal-size F (omega arith) p ranges)
+        (suc j) (omega arith) (omega arith))
 
   -- ---- of the given point
   module _ (p : 𝔾) (nonzero : pos 1 ⩽ larger p) where
@@ -97,7 +102,8 @@ module _ (F : ℕ) (narrow : F ≤ 48) (M : ℕ) (steps : StepTable) (logs : Rec
 
     -- from the turned point back to the given one, with 2^(F+k) for the length of wx in bits
     turn-back : (Z : ℤ) (a b : 𝔾) → a ≡ b →
-        negᵍ (q *ᵍ (ιᵍ Z *ᵍ (w *ᵍ ιᵍ P -ᵍ ιᵍ (two (bit-length w)) *ᵍ Sᵍ (2 ^ F) T a))) ≡ ιᵍ Z *ᵍ (ιᵍ (power F (binary-exponent F w)) *ᵍ q *ᵍ Sᵍ (2 ^ F) T b -ᵍ p *ᵍ ιᵍ P)
+        negᵍ (q *ᵍ (ιᵍ Z *ᵍ (w *ᵍ ιᵍ P -ᵍ ιᵍ (two (bit-length w)) *ᵍ Sᵍ (2 ^ F) T a))) ≡ ιᵍ Z *ᵍ
+        (ιᵍ (power F (binary-exponent F w)) *ᵍ q *ᵍ Sᵍ (2 ^ F) T b -ᵍ p *ᵍ ιᵍ P)
     unfolding w q
     turn-back Z a b e = ring! 𝔾R (q ∷ ιᵍ Z ∷ w ∷ ιᵍ P ∷ ιᵍ (two (bit-length w)) ∷ Sᵍ (2 ^ F) T a ∷ []) (search reifyᵍ depth 20) tt
         ∙ ap (λ x. ιᵍ Z *ᵍ (ιᵍ (two (bit-length w)) *ᵍ q *ᵍ Sᵍ (2 ^ F) T a -ᵍ x *ᵍ ιᵍ P)) (point-is p)
@@ -107,7 +113,9 @@ module _ (F : ℕ) (narrow : F ≤ 48) (M : ℕ) (steps : StepTable) (logs : Rec
     unfolding log answer w P q
     error j fits reach = close-parts F (index j) T p (log F steps logs (index j) p) (within-parts
         (subst (λ z. Within z (pos 3 *ℤ larger p *ℤ P)) (turn-back (two (index j)) _ _ (ap (λ m. answer-of F steps logs m w) (count j)))
-        (within-weaken (within-neg (within-mul (within-i p) (subst (λ x. Within (twoᵍ (index j) *ᵍ (w *ᵍ ιᵍ P -ᵍ ιᵍ (two (bit-length w)) *ᵍ Sᵍ (2 ^ F) T (answer-of F steps logs (suc j) w))) (pos 3 *ℤ x *ℤ P)) (turned-re p (turned-cone p nonzero)) (turned-error j fits reach w (turned-cone p nonzero)))))
+        (within-weaken (within-neg (within-mul (within-i p) (subst
+        (λ x. Within (twoᵍ (index j) *ᵍ (w *ᵍ ιᵍ P -ᵍ ιᵍ (two (bit-length w)) *ᵍ Sᵍ (2 ^ F) T (answer-of F steps logs (suc j) w))) (pos 3 *ℤ x *ℤ P))
+        (turned-re p (turned-cone p nonzero)) (turned-error j fits reach w (turned-cone p nonzero)))))
         (lin (larger p ∷ P ∷ []) none (search reify depth 20) tt))))
       where
         count : (j : ℕ) → suc j ≡ index j - 2

@@ -58,7 +58,8 @@ module _ (F n : ℕ) (fits : suc n ≤ F) (v : 𝔾) (b : ℤ) where
   one-step : Parts (v -ᵍ one) b → b ⩽ pos 3 *ℤ t → Parts (ιᵍ X *ᵍ (v′ -ᵍ one)) (X *ℤ t +ℤ (b +ℤ b) +ℤ X)
   unfolding X t one d v′
   one-step h l = subst (λ z. Parts z (X *ℤ t +ℤ (b +ℤ b) +ℤ X)) shape
-      (parts-add (parts-add (parts-scale X (nonneg-pos (2 ^ n)) (select-near F n v (parts-weaken h l))) (parts-digit (digit-parts (select-digit F n v)) h)) (step-error n d v))
+      (parts-add (parts-add (parts-scale X (nonneg-pos (2 ^ n)) (select-near F n v (parts-weaken h l))) (parts-digit (digit-parts (select-digit F n v)) h))
+      (step-error n d v))
 
 -- ---- all steps
 module _ (F : ℕ) (v : 𝔾) (start : Parts (ιᵍ (pos 64) *ᵍ (v -ᵍ twoᵍ F)) (pos 7 *ℤ two F)) where
@@ -91,7 +92,8 @@ module _ (F : ℕ) (v : 𝔾) (start : Parts (ιᵍ (pos 64) *ᵍ (v -ᵍ twoᵍ
   -- n from 4 on
   later : (m : ℕ) → m + 12 ≤ F → Parts (u (suc m)) (pos 3 *ℤ half F (index (suc m))) → Parts (u (suc (suc m))) (pos 3 *ℤ half F (index (suc (suc m))))
   unfolding u point-at one X t d v′
-  later m w h = parts-cancel (two n) (two≥1 n) (parts-weaken (one-step F n (omega arith) (point-at F v (suc m)) (pos 3 *ℤ half F n) h (⩽-refl (pos 3 *ℤ half F n))) last)
+  later m w h = parts-cancel (two n) (two≥1 n) (parts-weaken
+      (one-step F n (omega arith) (point-at F v (suc m)) (pos 3 *ℤ half F n) h (⩽-refl (pos 3 *ℤ half F n))) last)
     where
       n : ℕ
       n = index (suc m)
@@ -104,7 +106,8 @@ module _ (F : ℕ) (v : 𝔾) (start : Parts (ιᵍ (pos 64) *ᵍ (v -ᵍ twoᵍ
 
       last : two n *ℤ half F n +ℤ (pos 3 *ℤ half F n +ℤ pos 3 *ℤ half F n) +ℤ two n ⩽ two n *ℤ (pos 3 *ℤ s)
       last = lin (two n ∷ half F n ∷ s ∷ [])
-          (ap (λ x. two n *ℤ x) (half-halve F n (omega arith)) &≡ half-halve F n (omega arith) &≡ nonneg-mul (sub-nonneg X≥16) (sub-nonneg (half-large F (suc n) 2 (omega arith))) & half-large F (suc n) 2 (omega arith) & X≥16 & none) (search reify depth 20) tt
+          (ap (λ x. two n *ℤ x) (half-halve F n (omega arith)) &≡ half-halve F n (omega arith) &≡ nonneg-mul (sub-nonneg X≥16)
+          (sub-nonneg (half-large F (suc n) 2 (omega arith))) & half-large F (suc n) 2 (omega arith) & X≥16 & none) (search reify depth 20) tt
 
   -- each part of u is at most 3/2 of 1/2^n, n = m + 4, after the step m + 3 ≤ F − 8
   pub converges : (m : ℕ) → m + 11 ≤ F → Parts (point-at F v (suc m) -ᵍ twoᵍ F) (pos 3 *ℤ half F (index (suc m)))
@@ -114,7 +117,8 @@ module _ (F : ℕ) (v : 𝔾) (start : Parts (ιᵍ (pos 64) *ᵍ (v -ᵍ twoᵍ
 
   -- in 01's words: n = m + 4, the parts of 2^n·u, twice
   pub converges-times : (m : ℕ) → m + 11 ≤ F → Parts (ιᵍ (pos 2 *ℤ two (index (suc m))) *ᵍ (point-at F v (suc m) -ᵍ twoᵍ F)) (pos 3 *ℤ two F)
-  converges-times m w = subst (λ b. Parts (ιᵍ (pos 2 *ℤ two n) *ᵍ (point-at F v (suc m) -ᵍ twoᵍ F)) b) radius (parts-scale (pos 2 *ℤ two n) (nonneg-pos (2 * 2 ^ n)) (converges m w))
+  converges-times m w = subst (λ b. Parts (ιᵍ (pos 2 *ℤ two n) *ᵍ (point-at F v (suc m) -ᵍ twoᵍ F)) b) radius
+      (parts-scale (pos 2 *ℤ two n) (nonneg-pos (2 * 2 ^ n)) (converges m w))
     where
       n : ℕ
       n = index (suc m)
@@ -125,7 +129,8 @@ module _ (F : ℕ) (v : 𝔾) (start : Parts (ιᵍ (pos 64) *ᵍ (v -ᵍ twoᵍ
   -- the point itself stays within two
   pub point-size : (m : ℕ) → m + 10 ≤ F → Parts (point-at F v m) (pos 2 *ℤ two F)
   unfolding point-at
-  point-size m w = subst₂ Parts (ring! 𝔾R (point-at F v m ∷ twoᵍ F ∷ []) (search reifyᵍ depth 20) tt) (ring! ℤR (two F ∷ []) (search reify depth 20) tt) (parts-add (from-one m w) one-parts)
+  point-size m w = subst₂ Parts (ring! 𝔾R (point-at F v m ∷ twoᵍ F ∷ []) (search reifyᵍ depth 20) tt) (ring! ℤR (two F ∷ []) (search reify depth 20) tt)
+      (parts-add (from-one m w) one-parts)
     where
       one-parts : Parts (twoᵍ F) (two F)
       one-parts = within-parts (within-ι (two F) (nonneg-pos (2 ^ F)))
@@ -133,7 +138,8 @@ module _ (F : ℕ) (v : 𝔾) (start : Parts (ιᵍ (pos 64) *ᵍ (v -ᵍ twoᵍ
       from-one : (m : ℕ) → m + 10 ≤ F → Parts (point-at F v m -ᵍ twoᵍ F) (two F)
       from-one zero w = parts-cancel (pos 64) (record { le = tt }) (parts-weaken start (lin (two F ∷ []) (nonneg-pos (2 ^ F) & none) (search reify depth 20) tt))
       from-one (suc m) w = parts-weaken (converges m (omega arith))
-          (lin (two F ∷ two n ∷ half F n ∷ []) (one-halves F n (omega arith) &≡ nonneg-mul (nonneg-pos (2 ^ (F - suc n))) (sub-nonneg X≥2) & nonneg-pos (2 ^ (F - suc n)) & none) (search reify depth 20) tt)
+          (lin (two F ∷ two n ∷ half F n ∷ []) (one-halves F n (omega arith) &≡ nonneg-mul (nonneg-pos (2 ^ (F - suc n))) (sub-nonneg X≥2) & nonneg-pos
+          (2 ^ (F - suc n)) & none) (search reify depth 20) tt)
         where
           n : ℕ
           n = index (suc m)

@@ -15,7 +15,8 @@ use Rattle.algebra.specs.Within.{Within, N-nonneg, within-add, within-sub, with
 relative-parts : (U px py cx cy : ℤ) → pos 1 ⩽ U → (cx *ℤ cx +ℤ cy *ℤ cy) *ℤ (U *ℤ U) ⩽ px *ℤ px +ℤ py *ℤ py →
     (cx *ℤ cx +ℤ cy *ℤ cy) *ℤ ((U -ℤ pos 1) *ℤ (U -ℤ pos 1)) ⩽ (px +ℤ cx) *ℤ (px +ℤ cx) +ℤ (py +ℤ cy) *ℤ (py +ℤ cy)
 relative-parts U px py cx cy U≥1 h = le-cancel (U *ℤ U) (lin (U ∷ []) (nonneg-mul (sub-nonneg U≥1) (sub-nonneg U≥1) & U≥1 & none) (search reify depth 20) tt)
-    (lin (U ∷ px ∷ py ∷ cx ∷ cy ∷ []) (nonneg-mul (nonneg-mul U≥0 (sub-nonneg U≥1)) (sub-nonneg h) & nonneg-mul U≥0 (nonneg-sq (px +ℤ U *ℤ cx)) & nonneg-mul U≥0 (nonneg-sq (py +ℤ U *ℤ cy)) & none) (search reify depth 20 fits 4000) tt)
+    (lin (U ∷ px ∷ py ∷ cx ∷ cy ∷ []) (nonneg-mul (nonneg-mul U≥0 (sub-nonneg U≥1)) (sub-nonneg h) & nonneg-mul U≥0 (nonneg-sq (px +ℤ U *ℤ cx)) & nonneg-mul U≥0
+    (nonneg-sq (py +ℤ U *ℤ cy)) & none) (search reify depth 20 fits 4000) tt)
   where
     U≥0 : pos 0 ⩽ U
     U≥0 = lin (U ∷ []) (U≥1 & none) (search reify depth 20) tt
@@ -39,11 +40,13 @@ within-relative : (Z : ℤ) (m c x : 𝔾) (r : ℤ) → N c *ℤ (Z *ℤ Z) ⩽
 within-relative Z m c x r h w = record {
   sign = w .sign;
   size = subst (λ t. t ⩽ r *ℤ r) (sym (N-scale Z (m *ᵍ c) ∙ ap (λ t. Z *ℤ Z *ℤ t) (N-mul m c)))
-      (⩽-trans (lin (N m ∷ N c ∷ N x ∷ Z ∷ []) (nonneg-mul (N-nonneg m) (sub-nonneg h) & none) (search reify depth 20) tt) (subst (λ t. t ⩽ r *ℤ r) (N-mul m x) (w .size)));
+      (⩽-trans (lin (N m ∷ N c ∷ N x ∷ Z ∷ []) (nonneg-mul (N-nonneg m) (sub-nonneg h) & none) (search reify depth 20) tt)
+      (subst (λ t. t ⩽ r *ℤ r) (N-mul m x) (w .size)));
 }
 
 -- ---- the factor
-module _ (U P X e m : ℤ) (q g g′ c x : 𝔾) (U≥2 : pos 2 ⩽ U) (P≥1 : pos 1 ⩽ P) (X≥0 : pos 0 ⩽ X) (e≥0 : pos 0 ⩽ e) (m≥0 : pos 0 ⩽ m) (few : pos 14 *ℤ (m +ℤ pos 1) ⩽ U)
+module _ (U P X e m : ℤ) (q g g′ c x : 𝔾) (U≥2 : pos 2 ⩽ U) (P≥1 : pos 1 ⩽ P) (X≥0 : pos 0 ⩽ X) (e≥0 : pos 0 ⩽ e) (m≥0 : pos 0 ⩽ m)
+    (few : pos 14 *ℤ (m +ℤ pos 1) ⩽ U)
     (old : Within (ιᵍ (pos 4 *ℤ U) *ᵍ (g *ᵍ q -ᵍ ιᵍ P *ᵍ ιᵍ e)) (pos 7 *ℤ m *ℤ (P *ℤ e)))
     (short : Within (ιᵍ (pos 2) *ᵍ q) (pos 5 *ℤ e))
     (product : Within (ιᵍ (pos 4 *ℤ U) *ᵍ (g′ *ᵍ x -ᵍ ιᵍ P *ᵍ g)) (P *ℤ P))
@@ -103,7 +106,8 @@ module _ (U P X e m : ℤ) (q g g′ c x : 𝔾) (U≥2 : pos 2 ⩽ U) (P≥1 : 
   whole-is : Within (ιᵍ (pos 2) *ᵍ ιᵍ k *ᵍ (g′ *ᵍ q) *ᵍ (ιᵍ X *ᵍ x)) whole
   unfolding A B whole
   whole-is = subst (λ z. Within z whole) (ring! 𝔾R (ιᵍ k ∷ ιᵍ X ∷ ιᵍ P ∷ ιᵍ e ∷ g ∷ g′ ∷ q ∷ x ∷ []) (search reifyᵍ depth 20 fits 4000) tt)
-      (within-add (within-add (within-scale X X≥0 (within-mul short product-is)) (within-scale X X≥0 (within-scale (pos 2) (nonneg-pos 2) (within-scale P P≥0 old-is))))
+      (within-add (within-add (within-scale X X≥0 (within-mul short product-is))
+      (within-scale X X≥0 (within-scale (pos 2) (nonneg-pos 2) (within-scale P P≥0 old-is))))
       (within-scale X X≥0 (within-scale (pos 2) (nonneg-pos 2) (within-scale k k≥0 (within-scale P P≥0 (within-scale P P≥0 (within-ι e e≥0)))))))
 
   -- the rule's share, times 2 k (U − 1)
@@ -131,11 +135,14 @@ module _ (U P X e m : ℤ) (q g g′ c x : 𝔾) (U≥2 : pos 2 ⩽ U) (P≥1 : 
   shape : ιᵍ Z *ᵍ first +ᵍ ιᵍ Z *ᵍ second -ᵍ ιᵍ Z *ᵍ third ≡ ιᵍ Z *ᵍ (ιᵍ (pos 2) *ᵍ (ιᵍ P *ᵍ (ιᵍ k *ᵍ y)))
   shape = ring! 𝔾R (ιᵍ Z ∷ first ∷ second ∷ third ∷ []) (search reifyᵍ depth 20) tt ∙ ap (λ z. ιᵍ Z *ᵍ z) multiplied
 
-  enough : Z *ℤ (pos 2 *ℤ (X *ℤ (P *ℤ (pos 7 *ℤ m *ℤ (P *ℤ e))))) +ℤ Z *ℤ (X *ℤ (pos 5 *ℤ e *ℤ (P *ℤ P))) +ℤ whole ⩽ Z *ℤ (pos 2 *ℤ (P *ℤ (pos 7 *ℤ (m +ℤ pos 1) *ℤ (P *ℤ (X *ℤ e)))))
+  enough : Z *ℤ (pos 2 *ℤ (X *ℤ (P *ℤ (pos 7 *ℤ m *ℤ (P *ℤ e))))) +ℤ Z *ℤ (X *ℤ (pos 5 *ℤ e *ℤ (P *ℤ P))) +ℤ whole ⩽ Z *ℤ
+      (pos 2 *ℤ (P *ℤ (pos 7 *ℤ (m +ℤ pos 1) *ℤ (P *ℤ (X *ℤ e)))))
   unfolding Z k whole
   enough = lin (U ∷ P ∷ X ∷ e ∷ m ∷ []) (nonneg-mul (nonneg-mul (nonneg-mul X≥0 e≥0) (nonneg-sq P)) (sub-nonneg few) & none) (search reify depth 20 fits 4000) tt
 
   pub factor : Within (ιᵍ (pos 4 *ℤ U) *ᵍ (g′ *ᵍ (c *ᵍ q) -ᵍ ιᵍ P *ᵍ (ιᵍ X *ᵍ ιᵍ e))) (pos 7 *ℤ (m +ℤ pos 1) *ℤ (P *ℤ (X *ℤ e)))
   unfolding y k first second third
-  factor = within-cancel P P≥1 (within-cancel (pos 2) (record { le = tt }) (within-cancel Z Z≥1 (subst (λ z. Within z (Z *ℤ (pos 2 *ℤ (P *ℤ (pos 7 *ℤ (m +ℤ pos 1) *ℤ (P *ℤ (X *ℤ e))))))) shape
-      (within-weaken (within-sub (within-add (within-scale Z Z≥0 (within-scale (pos 2) (nonneg-pos 2) (within-scale X X≥0 (within-scale P P≥0 old-is)))) (within-scale Z Z≥0 (within-scale X X≥0 (within-mul short product-is)))) share) enough))))
+  factor = within-cancel P P≥1 (within-cancel (pos 2) (record { le = tt })
+      (within-cancel Z Z≥1 (subst (λ z. Within z (Z *ℤ (pos 2 *ℤ (P *ℤ (pos 7 *ℤ (m +ℤ pos 1) *ℤ (P *ℤ (X *ℤ e))))))) shape
+      (within-weaken (within-sub (within-add (within-scale Z Z≥0 (within-scale (pos 2) (nonneg-pos 2) (within-scale X X≥0 (within-scale P P≥0 old-is))))
+      (within-scale Z Z≥0 (within-scale X X≥0 (within-mul short product-is)))) share) enough))))

@@ -16,7 +16,7 @@ use Rattle.algebra.specs.Order.{_⩽_, nonneg-pos, pos-mono, pos-inj-le}
 use Rattle.algebra.specs.Linear.{lin, lin<, _&_, none}
 use Rattle.algebra.specs.Power.{two, two-whole, two-mono}
 use Rattle.algebra.specs.Floor.{ceiling}
-use Rattle.algebra.specs.Parts.{Size, Parts, parts-weaken, size-add, size-neg, size-scale, floorᵍ, scaled-re, scaled-im, size-mul}
+use Rattle.algebra.specs.Parts.{Size, Parts, parts-weaken, size-add, size-neg, size-scale, size-mul, floorᵍ, scaled-re, scaled-im}
 use Rattle.word.specs.Fits.{zero-sub, sfits-range, sfits-size, sfits-pos, sfits-neg}
 use Rattle.word.specs.Shift.{size-shift, shift-constant-word}
 use Rattle.point.specs.declared.Point.{Point}
@@ -29,7 +29,8 @@ use Rattle.logarithm.specs.Code.{turnOf, ScalePre, ReducePre, LessPre, B
 
 -- ---- the turn
 -- w after m quarter turns back, with q spelled so
-pub turn-made : (p w : Point) (m : ℕ) (q : ℤ) → quarters (gauss p) ≡ m → w ≡ point (turns-back m (gauss p)) → q ≡ spelling m (turns-back m (gauss p)) → record { point = w; quadrant = q } ≡ turnOf p
+pub turn-made : (p w : Point) (m : ℕ) (q : ℤ) → quarters (gauss p) ≡ m → w ≡ point (turns-back m (gauss p)) → q ≡ spelling m (turns-back m (gauss p)) →
+    record { point = w; quadrant = q } ≡ turnOf p
 turn-made p w m q e f g = let t = turn-is (gauss p) m e in λ i. record { point = (f ∙ ap point (sym (t .1))) i; quadrant = (g ∙ sym (t .0)) i }
 
 -- a conjugate and a quarter turn keep the sizes
@@ -53,7 +54,8 @@ natAbs-pos (negsuc n) h = absurd (h .le)
 -- the parts are at most 2^b in size
 scale-parts : {w : Point} {b : ℕ} → ScalePre w b → Parts (gauss w) (two b)
 scale-parts {w} {b} s = subst (λ b. Parts (gauss w) (two b)) (sym (s .length))
-    (parts-weaken (cone-parts (s .cone)) (lin (w .x ∷ two (bit-length (gauss w)) ∷ []) (length-law (gauss w) (cone-pos (s .cone)) .above & none) (search reify depth 20) tt))
+    (parts-weaken (cone-parts (s .cone)) (lin (w .x ∷ two (bit-length (gauss w)) ∷ []) (length-law (gauss w) (cone-pos (s .cone)) .above & none)
+    (search reify depth 20) tt))
 
 pub scale-length : {w : Point} {b : ℕ} → ScalePre w b → b ≤ 59
 scale-length {w} {b} s = subst (λ b. b ≤ 59) (sym (s .length)) (length-le (gauss w) 58 (cone-pos (s .cone)) (s .small))
@@ -79,7 +81,8 @@ scale-up {w} {b} s h = record {
     whole = ring! ℤR (two (48 - b) ∷ two b ∷ []) (search reify depth 20) tt ∙ two-whole b 48 h
 
     grown : (x : ℤ) → Size x (two b) → Size (x *ℤ two (48 - b)) (two 48)
-    grown x l = subst (λ v. Size (x *ℤ two (48 - b)) v) whole (subst (λ v. Size v (two (48 - b) *ℤ two b)) (sym (times x)) (size-scale (two (48 - b)) (nonneg-pos (2 ^ (48 - b))) l))
+    grown x l = subst (λ v. Size (x *ℤ two (48 - b)) v) whole
+        (subst (λ v. Size v (two (48 - b) *ℤ two b)) (sym (times x)) (size-scale (two (48 - b)) (nonneg-pos (2 ^ (48 - b))) l))
 
 -- down, for k > 0
 pub record Down (w : Point) (b : ℕ) : Type 0 where
@@ -96,7 +99,8 @@ scale-down {w} {b} s h = record {
   y = sfits-size (small .im) tt;
   over-x = sfits-size (size-shift (2 ^ (b - 48)) (small .re)) tt;
   over-y = sfits-size (size-shift (2 ^ (b - 48)) (small .im)) tt;
-  made = ap₂ (λ z b. point (floorᵍ z (down 48 b))) (gi-path (sym (one-re) ∙ ap (λ u. (ιᵍ (pos u) *ᵍ gauss w) .re) (sym one)) (sym one-im ∙ ap (λ u. (ιᵍ (pos u) *ᵍ gauss w) .im) (sym one))) (s .length);
+  made = ap₂ (λ z b. point (floorᵍ z (down 48 b))) (gi-path (sym (one-re) ∙ ap (λ u. (ιᵍ (pos u) *ᵍ gauss w) .re) (sym one))
+      (sym one-im ∙ ap (λ u. (ιᵍ (pos u) *ᵍ gauss w) .im) (sym one))) (s .length);
 }
   where
     small : Parts (gauss w) (two 59)
@@ -116,7 +120,8 @@ scale-down {w} {b} s h = record {
 
 -- k, from the length
 pub exponent-fits : (b : ℕ) → b ≤ 59 → SFits w64 (pos b -ℤ pos 48)
-exponent-fits b h = sfits-range (lin (pos b ∷ []) (nonneg-pos b & none) (search reify depth 20) tt) (lin< (pos b ∷ []) (pos-mono h & none) (search reify depth 20) tt)
+exponent-fits b h = sfits-range (lin (pos b ∷ []) (nonneg-pos b & none) (search reify depth 20) tt)
+    (lin< (pos b ∷ []) (pos-mono h & none) (search reify depth 20) tt)
 
 -- ---- the reciprocal
 pub record ReduceFits (p : Point) (c : Entry) : Type 0 where

@@ -50,7 +50,8 @@ module _ (F : ℕ) (p v c : 𝔾) where
   floors-next : (m : ℕ) → Floors F p v c m → Floors F p v c (suc m)
   unfolding numer denom point-at digit-at
   floors-next m old = subst (λ z. Parts z (pos 2 *ℤ pos (suc (suc m)) *ℤ (X *ℤ e))) shape
-      (parts-weaken (parts-sub (parts-add (parts-scale X (nonneg-pos (2 ^ index m)) old) (parts-digit (digit-at-parts F v m) old)) (parts-scale e (nonneg-pos (denom m)) (step-error (index m) d x))) fits)
+      (parts-weaken (parts-sub (parts-add (parts-scale X (nonneg-pos (2 ^ index m)) old) (parts-digit (digit-at-parts F v m) old))
+      (parts-scale e (nonneg-pos (denom m)) (step-error (index m) d x))) fits)
     where
       X : ℤ
       X = two (index m)
@@ -91,8 +92,10 @@ Short Y e n = pos 8 *ℤ n *ℤ (Y *ℤ Y) ⩽ pos 25 *ℤ (pos 2 *ℤ (Y *ℤ Y
 
 short-next : (Y e n k : ℤ) → pos 4 ⩽ Y → pos 0 ⩽ n → k ⩽ pos 4 *ℤ (Y *ℤ Y) +ℤ pos 4 *ℤ Y +ℤ pos 2 → Short Y e n → Short (pos 2 *ℤ Y) (pos 2 *ℤ Y *ℤ e) (k *ℤ n)
 short-next Y e n k Y≥4 n≥0 k≤ h = lin (Y ∷ e ∷ n ∷ k ∷ [])
-    (nonneg-mul (nonneg-mul (nonneg-sq Y) n≥0) (sub-nonneg k≤) & nonneg-mul (nonneg-add (nonneg-add (nonneg-mul (nonneg-pos 4) (nonneg-sq Y)) (nonneg-mul (nonneg-pos 4) Y≥0)) (nonneg-pos 2)) (sub-nonneg h)
-    & nonneg-mul (nonneg-mul (nonneg-sq e) Y≥0) (sub-nonneg Y≥4) & nonneg-mul (nonneg-sq e) (sub-nonneg Y≥4) & nonneg-sq e & none) (search reify depth 20 fits 4000) tt
+    (nonneg-mul (nonneg-mul (nonneg-sq Y) n≥0) (sub-nonneg k≤) & nonneg-mul
+    (nonneg-add (nonneg-add (nonneg-mul (nonneg-pos 4) (nonneg-sq Y)) (nonneg-mul (nonneg-pos 4) Y≥0)) (nonneg-pos 2)) (sub-nonneg h)
+    & nonneg-mul (nonneg-mul (nonneg-sq e) Y≥0) (sub-nonneg Y≥4) & nonneg-mul (nonneg-sq e) (sub-nonneg Y≥4) & nonneg-sq e & none)
+    (search reify depth 20 fits 4000) tt
   where
     Y≥0 : pos 0 ⩽ Y
     Y≥0 = lin (Y ∷ []) (Y≥4 & none) (search reify depth 20) tt
@@ -115,7 +118,8 @@ module _ (F : ℕ) (v c : 𝔾) (small : N c ⩽ pos 15200) where
   short zero = lin (N c ∷ []) (small & none) (search reify depth 20) tt
   short (suc m) = subst₂ (λ Y n. Short Y (Y *ℤ pos (denom m)) n) (sym (two-suc (suc (suc m)))) (sym (N-mul (twoᵍ (index m) +ᵍ digit-at F v m) (numer F v c m)))
       (short-next Y (pos (denom m)) (N (numer F v c m)) (N (twoᵍ (index m) +ᵍ digit-at F v m)) (power≥4 m) (N-nonneg (numer F v c m))
-      (subst (λ X. N (ιᵍ X +ᵍ digit-at F v m) ⩽ pos 4 *ℤ (Y *ℤ Y) +ℤ pos 4 *ℤ Y +ℤ pos 2) (sym (two-suc (suc (suc m)))) (factor-size Y (digit-at F v m) (nonneg-pos (2 ^ suc (suc m))) (digit-at-parts F v m))) (short m))
+      (subst (λ X. N (ιᵍ X +ᵍ digit-at F v m) ⩽ pos 4 *ℤ (Y *ℤ Y) +ℤ pos 4 *ℤ Y +ℤ pos 2) (sym (two-suc (suc (suc m))))
+      (factor-size Y (digit-at F v m) (nonneg-pos (2 ^ suc (suc m))) (digit-at-parts F v m))) (short m))
     where
       Y : ℤ
       Y = two (suc (suc m))
@@ -125,5 +129,6 @@ module _ (F : ℕ) (v c : 𝔾) (small : N c ⩽ pos 15200) where
   unfolding ιᵍ _*ᵍ_
   numer-within m = record {
     sign = nonneg-pos (5 * denom m);
-    size = lin (numer F v c m .re ∷ numer F v c m .im ∷ pos (denom m) ∷ []) (short-end (two (suc (suc m))) (pos (denom m)) (N (numer F v c m)) (power≥4 m) (short m) & none) (search reify depth 20) tt;
+    size = lin (numer F v c m .re ∷ numer F v c m .im ∷ pos (denom m) ∷ [])
+        (short-end (two (suc (suc m))) (pos (denom m)) (N (numer F v c m)) (power≥4 m) (short m) & none) (search reify depth 20) tt;
   }

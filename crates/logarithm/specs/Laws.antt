@@ -142,7 +142,8 @@ module _ (F : ℕ) (wide : 11 ≤ F) {n : ℤ} {p : 𝔾} (a : Accepted F n p) w
           (converges F (begun F (turned p)) begun-near (N - 3) (omega (arith, count .at-most, count .at-least))))
 
       four : two (F - N) ≡ pos 4 *ℤ half F (suc N)
-      four = two-halve F N (omega (arith, count .at-most, count .at-least)) ∙ ap (λ t. pos 2 *ℤ t) (two-halve F (suc N) (omega (arith, count .at-most, count .at-least))) ∙ ring! ℤR (half F (suc N) ∷ []) (search reify depth 20) tt
+      four = two-halve F N (omega (arith, count .at-most, count .at-least)) ∙ ap (λ t. pos 2 *ℤ t)
+          (two-halve F (suc N) (omega (arith, count .at-most, count .at-least))) ∙ ring! ℤR (half F (suc N) ∷ []) (search reify depth 20) tt
 
       below : {x : ℤ} → Size x (pos 3 *ℤ half F (suc N)) → abs x ⋖ two (F - N)
       below {x} h = lin< (abs x ∷ two (F - N) ∷ half F (suc N) ∷ []) (size-abs h & four &≡ two≥1 (F - suc (suc N)) & none) (search reify depth 20) tt
@@ -153,13 +154,15 @@ module _ (F : ℕ) (wide : 11 ≤ F) {n : ℤ} {p : 𝔾} (a : Accepted F n p) w
     unfolding answer
     answer-within = let c = steps-say F 3 n (a .steps) in
         answer-size F (F - 8) steps entries (begun F (turned p)) (begun-answer F logs (turned p))
-        (within-neg (log-within F (omega arith) (reciprocals (column F (scaled F (turned p))) (row F (scaled F (turned p))) (in-table F (omega arith) (scaled F (turned p)) ranges))))
+        (within-neg (log-within F (omega arith) (reciprocals (column F (scaled F (turned p))) (row F (scaled F (turned p)))
+        (in-table F (omega arith) (scaled F (turned p)) ranges))))
         (natAbs n - 2) (omega (arith, c .at-most, c .at-least)) (omega (arith, c .at-most, c .at-least))
 
     -- demand 3
     pub close-at : (T : ℕ) → 24 ≤ T → CloseAt F (natAbs n) T p (log F steps logs (natAbs n) p)
     close-at T enough = let c = steps-say F 3 n (a .steps) in
-        log-close F narrow (F - 8) steps logs entries reciprocals T enough p (zero-says p (a .nonzero)) (natAbs n) (c .at-least) (omega (arith, c .at-most, c .at-least)) (c .at-most)
+        log-close F narrow (F - 8) steps logs entries reciprocals T enough p (zero-says p (a .nonzero)) (natAbs n) (c .at-least)
+        (omega (arith, c .at-most, c .at-least)) (c .at-most)
 
 -- ---- at the width 48: THE ANSWER IS CLOSE, for all inputs
 pub log-answer-close : (n x y : ℤ) → Close n x y (logAnswer n x y)
@@ -173,4 +176,5 @@ log-answer-close n x y = go (inSteps 48 3 n) (inParts 48 (gi x y)) (isZero (gi x
     go false b c e f g = tt
     go true false c e f g = tt
     go true true true e f g = tt
-    go true true false e f g = close-at 48 (lit≤ tt) (record { steps = e; parts = f; nonzero = g }) (lit≤ tt) stepTable reciprocalTable step-promise reciprocal-promise
+    go true true false e f g = close-at 48 (lit≤ tt) (record { steps = e; parts = f; nonzero = g })
+        (lit≤ tt) stepTable reciprocalTable step-promise reciprocal-promise

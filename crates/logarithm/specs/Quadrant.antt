@@ -82,7 +82,9 @@ one-pw (suc m) = ap (λ t. t *ℤ pos 1) (one-pw m)
 -- |i^q| ≤ 1
 pub within-i : (p : 𝔾) → Within (i^ (quadrant p)) (pos 1)
 unfolding quadrant
-within-i p = subst (λ t. Within t (pos 1)) (sym (spelling-law (quarters p) (turned p))) (subst (λ t. Within (pw 𝔾R iᵍ (quarters p)) t) (one-pw (quarters p)) (within-pow (record { sign = record { le = tt }; size = record { le = tt } }) (quarters p)))
+within-i p = subst (λ t. Within t (pos 1)) (sym (spelling-law (quarters p) (turned p)))
+    (subst (λ t. Within (pw 𝔾R iᵍ (quarters p)) t) (one-pw (quarters p))
+    (within-pow (record { sign = record { le = tt }; size = record { le = tt } }) (quarters p)))
 
 -- ---- the cone
 pub record Cone (w : 𝔾) : Type 0 where
@@ -101,7 +103,8 @@ cone-parts {w} h = record {
 
 cone-tested : (P : Bool → Type 0) (w : 𝔾) → (Cone w → P true) → ((Cone w → ⊥) → P false) → P (inCone w)
 cone-tested P w passed failed = tested< (λ t. P (t && leZ (w .im) (w .re))) (negℤ (w .re)) (w .im)
-    (λ lo. tested P (w .im) (w .re) (λ hi. passed (record { lo = lo; hi = hi })) (λ g. failed (λ h. lin-false (w .re ∷ w .im ∷ []) (g & h .hi & none) (search reify depth 20) tt)))
+    (λ lo. tested P (w .im) (w .re) (λ hi. passed (record { lo = lo; hi = hi }))
+    (λ g. failed (λ h. lin-false (w .re ∷ w .im ∷ []) (g & h .hi & none) (search reify depth 20) tt)))
     (λ g. failed (λ h. lin-false (w .re ∷ w .im ∷ []) (g & h .lo &< none) (search reify depth 20) tt))
 
 passes : (w : 𝔾) (m n : ℕ) → Cone w → choose (inCone w) m n ≡ m
@@ -119,7 +122,8 @@ apart x y h = (
 )
 
 -- ---- the tests, one after the other
-pub quarters-by : (p : 𝔾) {a b c : Bool} → inCone p ≡ a → inCone (turn-back p) ≡ b → inCone (turn-back (turn-back p)) ≡ c → quarters p ≡ choose a 0 (choose b 1 (choose c 2 3))
+pub quarters-by : (p : 𝔾) {a b c : Bool} → inCone p ≡ a → inCone (turn-back p) ≡ b → inCone (turn-back (turn-back p)) ≡ c →
+    quarters p ≡ choose a 0 (choose b 1 (choose c 2 3))
 unfolding quarters turns-back
 quarters-by p f g h = λ i. choose (f i) 0 (choose (g i) 1 (choose (h i) 2 3))
 
@@ -137,7 +141,8 @@ pub quarters-unique : (p : 𝔾) (m : ℕ) → m < 4 → Cone (turns-back m p) �
 unfolding quarters turns-back turn-back
 quarters-unique p zero l h = passes p 0 _ h
 quarters-unique p (suc zero) l h = fails p 0 _ (λ g. apart (p .re) (p .im) g .0 h) ∙ passes (turns-back 1 p) 1 _ h
-quarters-unique p (suc (suc zero)) l h = fails p 0 _ (λ g. apart (p .re) (p .im) g .1 h) ∙ fails (turns-back 1 p) 1 _ (λ g. apart (p .im) (negℤ (p .re)) g .0 h) ∙ passes (turns-back 2 p) 2 3 h
+quarters-unique p (suc (suc zero)) l h = fails p 0 _ (λ g. apart (p .re) (p .im) g .1 h) ∙ fails (turns-back 1 p) 1 _ (λ g. apart (p .im) (negℤ (p .re)) g .0 h)
+    ∙ passes (turns-back 2 p) 2 3 h
 quarters-unique p (suc (suc (suc zero))) l h = fails p 0 _ (λ g. apart (p .re) (p .im) g .2 h)
     ∙ fails (turns-back 1 p) 1 _ (λ g. apart (p .im) (negℤ (p .re)) g .1 h) ∙ fails (turns-back 2 p) 2 3 (λ g. apart (negℤ (p .re)) (negℤ (p .im)) g .0 h)
 quarters-unique p (suc (suc (suc (suc m)))) l h = absurd (omega arith)
@@ -167,10 +172,16 @@ pub turned-cone : (p : 𝔾) → pos 1 ⩽ larger p → Cone (turned p)
 unfolding turned turns-back turn-back
 turned-cone p nonzero = ⊎-elim
     (λ a. ⊎-elim (λ b. by 0 (lit< tt) (record { lo = lin< (x ∷ y ∷ []) (b & none) (search reify depth 20) tt; hi = a }))
-    (λ b. ⊎-elim (λ c. by 3 (lit< tt) (record { lo = lin< (x ∷ y ∷ []) (c & none) (search reify depth 20) tt; hi = lin (x ∷ y ∷ []) (b & none) (search reify depth 20) tt }))
-    (λ c. by 2 (lit< tt) (record { lo = diagonal a b c; hi = lin (x ∷ y ∷ []) (c & none) (search reify depth 20) tt })) (le-or-gt (y +ℤ pos 1) x)) (le-or-gt (pos 1 -ℤ x) y))
+    (λ b. ⊎-elim (λ c. by 3 (lit< tt) (record {
+      lo = lin< (x ∷ y ∷ []) (c & none) (search reify depth 20) tt;
+      hi = lin (x ∷ y ∷ []) (b & none)
+          (search reify depth 20) tt;
+    }))
+    (λ c. by 2 (lit< tt) (record { lo = diagonal a b c; hi = lin (x ∷ y ∷ []) (c & none) (search reify depth 20) tt })) (le-or-gt (y +ℤ pos 1) x))
+    (le-or-gt (pos 1 -ℤ x) y))
     (λ a. ⊎-elim (λ b. by 1 (lit< tt) (record { lo = lin< (x ∷ y ∷ []) (a & none) (search reify depth 20) tt; hi = b }))
-    (λ b. by 2 (lit< tt) (record { lo = lin< (x ∷ y ∷ []) (b & none) (search reify depth 20) tt; hi = lin (x ∷ y ∷ []) (a & none) (search reify depth 20) tt })) (le-or-gt (negℤ x) y))
+    (λ b. by 2 (lit< tt) (record { lo = lin< (x ∷ y ∷ []) (b & none) (search reify depth 20) tt; hi = lin (x ∷ y ∷ []) (a & none) (search reify depth 20) tt }))
+    (le-or-gt (negℤ x) y))
     (le-or-gt y x)
   where
     x : ℤ
@@ -184,7 +195,8 @@ turned-cone p nonzero = ⊎-elim
 
     -- x = y ≤ 0, and nought has no logarithm
     diagonal : y ⩽ x → y +ℤ pos 1 ⩽ pos 1 -ℤ x → x +ℤ pos 1 ⩽ y +ℤ pos 1 → negℤ (negℤ x) ⋖ negℤ y
-    diagonal a b c = ⊎-elim (λ h. lin< (x ∷ y ∷ []) (h & none) (search reify depth 20) tt) (λ h. absurd (nought (zero h .0) (zero h .1))) (le-or-gt (pos 1 +ℤ x) (negℤ y))
+    diagonal a b c = ⊎-elim (λ h. lin< (x ∷ y ∷ []) (h & none) (search reify depth 20) tt) (λ h. absurd (nought (zero h .0) (zero h .1)))
+        (le-or-gt (pos 1 +ℤ x) (negℤ y))
       where
         nought : Size x (pos 0) → Size y (pos 0) → ⊥
         nought h g = lin-false (larger p ∷ []) (nonzero & larger-le {z = p} {b = pos 0} (record { re = h; im = g }) & none) (search reify depth 20) tt

@@ -64,7 +64,8 @@ bits-from-law (suc f) b m h g = go (ltb m (2 ^ b)) (ltb→lt m (2 ^ b)) (nltb→
     shift : (b f : ℕ) → b + suc f ≡ suc b + f
     shift b f = omega arith
 
-    go : (t : Bool) → (T t → m < 2 ^ b) → (T (not t) → 2 ^ b ≤ m) → (2 ^ suc b ≤ 2 * m → Bits m (bits-from f (suc b) m)) → Bits m (elim t [ true ↦ b | false ↦ bits-from f (suc b) m ])
+    go : (t : Bool) → (T t → m < 2 ^ b) → (T (not t) → 2 ^ b ≤ m) → (2 ^ suc b ≤ 2 * m → Bits m (bits-from f (suc b) m)) →
+        Bits m (elim t [ true ↦ b | false ↦ bits-from f (suc b) m ])
     go true l o next = record { above = l tt; half = g }
     go false l o next = next (omega (arith, pow-suc 2 b, o tt))
 
@@ -143,7 +144,8 @@ exponent-law F w c = let h = length-law w (cone-pos c) in record {
 
 pub exponent-unique : (F : ℕ) (w : 𝔾) (k : ℤ) → Cone w → Exponent F (w .re) k → binary-exponent F w ≡ k
 unfolding binary-exponent
-exponent-unique F w k c e = ap (λ b. b -ℤ pos F) (ap pos (length-unique w (natAbs (pos F +ℤ k)) (cone-pos c) (record { above = e .above; half = e .half })) ∙ back (pos F +ℤ k) (e .whole))
+exponent-unique F w k c e = ap (λ b. b -ℤ pos F) (ap pos (length-unique w (natAbs (pos F +ℤ k)) (cone-pos c) (record { above = e .above; half = e .half }))
+    ∙ back (pos F +ℤ k) (e .whole))
     ∙ ring! ℤR (pos F ∷ k ∷ []) (search reify depth 20) tt
   where
     back : (b : ℤ) → pos 0 ⩽ b → pos (natAbs b) ≡ b
@@ -169,7 +171,8 @@ module _ (F : ℕ) (w : 𝔾) where
 
   pub scaled-exact : bit-length w ≤ F → scaled F w ≡ ιᵍ (pos (up F (bit-length w))) *ᵍ w
   unfolding scaled floorᵍ
-  scaled-exact h = ap (λ m. floorᵍ (ιᵍ (pos (up F (bit-length w))) *ᵍ w) m) (ap (λ t. 2 ^ t) (nothing-left (bit-length w) F h) ∙ pow-zero 2) ∙ gi-path (floor-one _) (floor-one _)
+  scaled-exact h = ap (λ m. floorᵍ (ιᵍ (pos (up F (bit-length w))) *ᵍ w) m) (ap (λ t. 2 ^ t) (nothing-left (bit-length w) F h) ∙ pow-zero 2) ∙ gi-path
+      (floor-one _) (floor-one _)
 
 -- ---- the ranges of a scaled point, U units to one: half of one at least, below one, and the cone but for the floor
 pub record Scaled (U : ℤ) (p : 𝔾) : Type 0 where
@@ -179,14 +182,19 @@ pub record Scaled (U : ℤ) (p : 𝔾) : Type 0 where
   pub hi : p .im ⩽ p .re
 
 module _ (u d B h wx wy x y : ℤ) (u≥1 : pos 1 ⩽ u) (d≥1 : pos 1 ⩽ d) (same : u *ℤ B ≡ d *ℤ (pos 2 *ℤ h)) (above : wx +ℤ pos 1 ⩽ B) (half : B ⩽ pos 2 *ℤ wx)
-    (lo : pos 1 -ℤ wx ⩽ wy) (hi : wy ⩽ wx) (x-lo : d *ℤ x ⩽ u *ℤ wx) (x-hi : u *ℤ wx +ℤ pos 1 ⩽ d *ℤ x +ℤ d) (y-lo : d *ℤ y ⩽ u *ℤ wy) (y-hi : u *ℤ wy +ℤ pos 1 ⩽ d *ℤ y +ℤ d) where
+    (lo : pos 1 -ℤ wx ⩽ wy) (hi : wy ⩽ wx) (x-lo : d *ℤ x ⩽ u *ℤ wx) (x-hi : u *ℤ wx +ℤ pos 1 ⩽ d *ℤ x +ℤ d) (y-lo : d *ℤ y ⩽ u *ℤ wy)
+    (y-hi : u *ℤ wy +ℤ pos 1 ⩽ d *ℤ y +ℤ d) where
   u≥0 : pos 0 ⩽ u
   u≥0 = lin (u ∷ []) (u≥1 & none) (search reify depth 20) tt
 
   ranges : Scaled (pos 2 *ℤ h) (gi x y)
   ranges = record {
-    half = lin (h ∷ x ∷ []) (below-next {a = h} {b = x} d d≥1 (lin (u ∷ d ∷ B ∷ h ∷ wx ∷ x ∷ []) (same &≡ nonneg-mul u≥0 (sub-nonneg half) & x-hi & none) (search reify depth 20) tt) & none) (search reify depth 20) tt;
-    below = lin (h ∷ x ∷ []) (below-next {a = x} {b = pos 2 *ℤ h -ℤ pos 1} d d≥1 (lin (u ∷ d ∷ B ∷ h ∷ wx ∷ x ∷ []) (same &≡ nonneg-mul u≥0 (sub-nonneg above) & x-lo & u≥1 & none) (search reify depth 20) tt) & none) (search reify depth 20) tt;
+    half = lin (h ∷ x ∷ []) (below-next {a = h} {b = x} d d≥1
+        (lin (u ∷ d ∷ B ∷ h ∷ wx ∷ x ∷ []) (same &≡ nonneg-mul u≥0 (sub-nonneg half) & x-hi & none) (search reify depth 20) tt) & none)
+        (search reify depth 20) tt;
+    below = lin (h ∷ x ∷ []) (below-next {a = x} {b = pos 2 *ℤ h -ℤ pos 1} d d≥1
+        (lin (u ∷ d ∷ B ∷ h ∷ wx ∷ x ∷ []) (same &≡ nonneg-mul u≥0 (sub-nonneg above) & x-lo & u≥1 & none) (search reify depth 20) tt) & none)
+        (search reify depth 20) tt;
     lo = below-next d d≥1 (lin (u ∷ d ∷ wx ∷ wy ∷ x ∷ y ∷ []) (nonneg-mul u≥0 (sub-nonneg lo) & x-hi & y-hi & u≥1 & x-lo & none) (search reify depth 20) tt);
     hi = below-next d d≥1 (lin (u ∷ d ∷ wx ∷ wy ∷ x ∷ y ∷ []) (nonneg-mul u≥0 (sub-nonneg hi) & x-hi & y-lo & none) (search reify depth 20) tt);
   }
@@ -194,7 +202,8 @@ module _ (u d B h wx wy x y : ℤ) (u≥1 : pos 1 ⩽ u) (d≥1 : pos 1 ⩽ d) (
 ranges-suc : (F : ℕ) (w : 𝔾) → Cone w → Scaled (two (suc F)) (scaled (suc F) w)
 unfolding scaled floorᵍ ιᵍ _*ᵍ_
 ranges-suc F w c = subst (λ t. Scaled t (scaled (suc F) w)) (sym (two-suc F))
-    (ranges (pos u) (pos d) (two b) (two F) (w .re) (w .im) x y (two≥1 (suc F - b)) (two≥1 (b - suc F)) (ap pos (up-down (suc F) b ∙ ap (λ t. d * t) (pow-succ' 2 F)))
+    (ranges (pos u) (pos d) (two b) (two F) (w .re) (w .im) x y (two≥1 (suc F - b)) (two≥1 (b - suc F))
+    (ap pos (up-down (suc F) b ∙ ap (λ t. d * t) (pow-succ' 2 F)))
     (length-law w (cone-pos c) .above) (length-law w (cone-pos c) .half) (lin (w .re ∷ w .im ∷ []) (c .lo &< none) (search reify depth 20) tt) (c .hi)
     (lin (pos u ∷ pos d ∷ w .re ∷ w .im ∷ x ∷ []) (floor-lo d d>0 X & none) (search reify depth 20) tt)
     (lin (pos u ∷ pos d ∷ w .re ∷ w .im ∷ x ∷ []) (floor-hi d d>0 X & none) (search reify depth 20) tt)

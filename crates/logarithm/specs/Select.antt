@@ -62,8 +62,14 @@ cut-near t u s = by-cut (λ d. Size (u +ℤ pos 2 *ℤ t *ℤ d) t) t u
 pub select-near : (F n : ℕ) (v : 𝔾) → Parts (v -ᵍ twoᵍ F) (pos 3 *ℤ half F n) → Parts (v -ᵍ twoᵍ F +ᵍ ιᵍ (pos 2) *ᵍ ιᵍ (half F n) *ᵍ select F n v) (half F n)
 unfolding select ιᵍ negᵍ _+ᵍ_ _*ᵍ_
 select-near F n v s = record {
-  re = record { lo = lin (v .re ∷ U ∷ t ∷ dx ∷ dy ∷ []) (cut-near t (v .re -ℤ U) (s .re) .lo & none) (search reify depth 20) tt; hi = lin (v .re ∷ U ∷ t ∷ dx ∷ dy ∷ []) (cut-near t (v .re -ℤ U) (s .re) .hi & none) (search reify depth 20) tt };
-  im = record { lo = lin (v .im ∷ t ∷ dx ∷ dy ∷ []) (cut-near t (v .im) sy .lo & none) (search reify depth 20) tt; hi = lin (v .im ∷ t ∷ dx ∷ dy ∷ []) (cut-near t (v .im) sy .hi & none) (search reify depth 20) tt };
+  re = record {
+    lo = lin (v .re ∷ U ∷ t ∷ dx ∷ dy ∷ []) (cut-near t (v .re -ℤ U) (s .re) .lo & none) (search reify depth 20) tt;
+    hi = lin (v .re ∷ U ∷ t ∷ dx ∷ dy ∷ []) (cut-near t (v .re -ℤ U) (s .re) .hi & none) (search reify depth 20) tt;
+  };
+  im = record {
+    lo = lin (v .im ∷ t ∷ dx ∷ dy ∷ []) (cut-near t (v .im) sy .lo & none) (search reify depth 20) tt;
+    hi = lin (v .im ∷ t ∷ dx ∷ dy ∷ []) (cut-near t (v .im) sy .hi & none) (search reify depth 20) tt;
+  };
 }
   where
     U : ℤ

@@ -1,7 +1,7 @@
 -- What the reduction hands to the run, and what the run needs and gives at each step: nothing overflows, and the state is that of the definition.
 use mathlib.Core.Path.{_≡_, refl, sym, _∙_, ap, ap₂, subst}
 use mathlib.Core.List.{[], _∷_}
-use Prim.Native.Nat.{ℕ, suc, _-_, _≤_, _<_}
+use Prim.Native.Nat.{ℕ, suc, _+_, _-_, _≤_, _<_}
 use native.Mathlib.Omega.{arith}
 use lib.Dec.{lit≤}
 use lib.IntN.{pos, natAbs, _-ℤ_, _*ℤ_}
@@ -16,7 +16,6 @@ use Rattle.algebra.specs.Parts.{Parts, parts-weaken, within-parts}
 use Rattle.point.specs.declared.Point.{Point}
 use Rattle.point.specs.Point.{gauss, point}
 use Rattle.point.specs.Limits.{steps-say, parts-say}
-use Rattle.point.specs.Digit.{IsDigit}
 use Rattle.point.specs.Step.{step}
 use Rattle.tables.specs.declared.Entry.{Entry}
 use Rattle.tables.specs.Reciprocal.{InTable}
@@ -28,7 +27,7 @@ use Rattle.logarithm.specs.declared.State.{State}
 use Rattle.logarithm.specs.Quadrant.{turned, cone-pos}
 use Rattle.logarithm.specs.Scale.{bits, bit-length, binary-exponent, scaled, Scaled, scaled-ranges}
 use Rattle.logarithm.specs.Cell.{column, row, cellX, cellY, reciprocalOf, reciprocal-parts, in-table, reduced-near}
-use Rattle.logarithm.specs.Select.{half, select, select-digit}
+use Rattle.logarithm.specs.Select.{half, select}
 use Rattle.logarithm.specs.Run.{index, point-at, digit-at, answer-at}
 use Rattle.logarithm.specs.Convergence.{point-size}
 use Rattle.logarithm.specs.TablePart.{entry-within, answer-size, log-within}
@@ -79,8 +78,14 @@ module _ {w : Point} {b : ℕ} (s : ScalePre w b) where
 
   pub scaled-parts : Parts (scaled 48 (gauss w)) (two 48)
   scaled-parts = record {
-    re = record { lo = lin (p .re ∷ p .im ∷ []) (ranges .half & none) (search reify depth 20) tt; hi = lin (p .re ∷ []) (ranges .below & none) (search reify depth 20) tt };
-    im = record { lo = lin (p .re ∷ p .im ∷ []) (ranges .below & ranges .lo & none) (search reify depth 20) tt; hi = lin (p .re ∷ p .im ∷ []) (ranges .below & ranges .hi & none) (search reify depth 20) tt };
+    re = record {
+      lo = lin (p .re ∷ p .im ∷ []) (ranges .half & none) (search reify depth 20) tt;
+      hi = lin (p .re ∷ []) (ranges .below & none) (search reify depth 20) tt;
+    };
+    im = record {
+      lo = lin (p .re ∷ p .im ∷ []) (ranges .below & ranges .lo & none) (search reify depth 20) tt;
+      hi = lin (p .re ∷ p .im ∷ []) (ranges .below & ranges .hi & none) (search reify depth 20) tt;
+    };
   }
 
   pub in-cell : InTable (column 48 (scaled 48 (gauss w))) (row 48 (scaled 48 (gauss w)))
@@ -98,50 +103,67 @@ module _ {w : Point} {b : ℕ} (s : ScalePre w b) where
   pub run-ok : (n : ℕ) → 3 ≤ n → n ≤ 40 → RunPre n (begunOf w)
   run-ok n lo hi = record { least = omega arith; most = hi; near = reduced-near 48 (lit≤ tt) p ranges; short = within-neg log-size }
 
--- ---- a step: the point v and the answer a after the steps 3 to k
-module _ {n : ℕ} {s : State} (p : RunPre n s) (k : ℕ) (lo : 2 ≤ k) (h : k < n) (v a : Point)
-    (at-v : gauss v ≡ point-at 48 (gauss (s .point)) (k - 2)) (at-a : gauss a ≡ answer-at 48 stepTable (gauss (s .point)) (gauss (s .answer)) (k - 2)) where
+-- ---- a step
+-- the point v and the answer a are those after the steps 3 to k
+pub record After (s : State) (k : ℕ) (v a : Point) : Type 0 where
+  pub least : 2 ≤ k
+  pub point : gauss v ≡ point-at 48 (gauss (s .point)) (k - 2)
+  pub answer : gauss a ≡ answer-at 48 stepTable (gauss (s .point)) (gauss (s .answer)) (k - 2)
+
+module _ {n : ℕ} {s : State} (p : RunPre n s) {k : ℕ} {v a : Point} (i : After s k v a) (h : k < n) where
   abbrev m : ℕ
   m = k - 2
 
+  abbrev v₀ : 𝔾
+  v₀ = gauss (s .point)
+
+  abbrev a₀ : 𝔾
+  a₀ = gauss (s .answer)
+
   taken : suc m ≡ suc k - 2
-  taken = omega arith
+  taken = omega (arith, i .least)
 
   numbered : index m ≡ suc k
-  numbered = omega arith
+  numbered = omega (arith, i .least)
 
+  fits : m + 11 ≤ 48
+  fits = omega (arith, i .least, p .most)
+
+  reach : index m ≤ 40
+  reach = omega (arith, i .least, p .most)
+
+  -- what it needs
   pub point-ok : Parts (gauss v) (two 61)
-  point-ok = subst (λ z. Parts z (two 61)) (sym at-v) (parts-weaken (point-size 48 (gauss (s .point)) (p .near) m (omega (arith, p .most))) (record { le = tt }))
+  point-ok = subst (λ z. Parts z (two 61)) (sym (i .point)) (parts-weaken (point-size 48 v₀ (p .near) m (omega (arith, fits))) (record { le = tt }))
 
   pub select-ok : SelectPre v (suc k)
   select-ok = record { parts = point-ok; most = omega (arith, p .most) }
 
-  pub digit-ok : IsDigit (select 48 (suc k) (gauss v))
-  digit-ok = select-digit 48 (suc k) (gauss v)
-
-  digit-same : select 48 (suc k) (gauss v) ≡ digit-at 48 (gauss (s .point)) m
+  digit-same : select 48 (suc k) (gauss v) ≡ digit-at 48 v₀ m
   unfolding digit-at
-  digit-same = ap₂ (select 48) (sym numbered) at-v
+  digit-same = ap₂ (select 48) (sym numbered) (i .point)
 
-  abbrev e : 𝔾
-  e = look stepTable (suc k) (select 48 (suc k) (gauss v))
-
-  entry-same : e ≡ look stepTable (index m) (digit-at 48 (gauss (s .point)) m)
+  entry-same : look stepTable (suc k) (select 48 (suc k) (gauss v)) ≡ look stepTable (index m) (digit-at 48 v₀ m)
   entry-same = ap₂ (look stepTable) (sym numbered) digit-same
 
   pub less-ok : LessPre a (entry (look stepTable (suc k) (select 48 (suc k) (gauss v))))
   less-ok = record {
-    answer = subst (λ z. Parts z (two 61)) (sym at-a) (parts-weaken (within-parts (answer-size 48 40 stepTable step-promise (gauss (s .point)) (gauss (s .answer)) (p .short) m (omega (arith, p .most)) (omega (arith, p .most)))) (record { le = tt }));
+    answer = subst (λ z. Parts z (two 61)) (sym (i .answer))
+        (parts-weaken (within-parts (answer-size 48 40 stepTable step-promise v₀ a₀ (p .short) m (omega (arith, fits)) (omega (arith, reach)))) (record { le = tt }));
     entry = subst (λ z. Parts z (two 61)) (sym entry-same)
-        (parts-weaken (within-parts (entry-within 48 40 stepTable step-promise (gauss (s .point)) (gauss (s .answer)) (p .short) m (omega (arith, p .most)) (omega (arith, p .most))))
+        (parts-weaken (within-parts (entry-within 48 40 stepTable step-promise v₀ a₀ (p .short) m fits reach))
         (lin (half 48 (index m) ∷ []) (two-mono (48 - suc (index m)) 48 (omega arith) & none) (search reify depth 20) tt));
   }
 
-  -- after it
-  pub again-point : step (suc k) (select 48 (suc k) (gauss v)) (gauss v) ≡ point-at 48 (gauss (s .point)) (suc k - 2)
+  -- what it gives
+  next-point : step (suc k) (select 48 (suc k) (gauss v)) (gauss v) ≡ point-at 48 (gauss (s .point)) (suc k - 2)
   unfolding point-at
-  again-point = ap₂ (λ j z. step j (select 48 j z) z) (sym numbered) at-v ∙ ap (point-at 48 (gauss (s .point))) taken
+  next-point = ap₂ (λ j z. step j (select 48 j z) z) (sym numbered) (i .point) ∙ ap (point-at 48 v₀) taken
 
-  pub again-answer : gauss a -ᵍ look stepTable (suc k) (select 48 (suc k) (gauss v)) ≡ answer-at 48 stepTable (gauss (s .point)) (gauss (s .answer)) (suc k - 2)
+  next-answer : gauss a -ᵍ look stepTable (suc k) (select 48 (suc k) (gauss v)) ≡ answer-at 48 stepTable (gauss (s .point)) (gauss (s .answer)) (suc k - 2)
   unfolding answer-at
-  again-answer = ap₂ _-ᵍ_ at-a entry-same ∙ ap (answer-at 48 stepTable (gauss (s .point)) (gauss (s .answer))) taken
+  next-answer = ap₂ _-ᵍ_ (i .answer) entry-same ∙ ap (answer-at 48 stepTable v₀ a₀) taken
+
+  pub next : (w b : Point) → gauss w ≡ step (suc k) (select 48 (suc k) (gauss v)) (gauss v) → gauss b ≡ gauss a -ᵍ look stepTable (suc k) (select 48 (suc k) (gauss v)) →
+      After s (suc k) w b
+  next w b e f = record { least = omega (arith, i .least); point = e ∙ next-point; answer = f ∙ next-answer }

@@ -53,7 +53,8 @@ module _ (F M : ℕ) (steps : StepTable) (promise : StepPromise F M steps) (v a�
 
   -- |a| ≤ 13/8
   pub answer-size : (m : ℕ) → m + 10 ≤ F → m + 2 ≤ M → Within (answer-at F steps v a₀ m) (pos 13 *ℤ half F 2)
-  answer-size m h l = within-weaken (answer-room m h l) (lin (half F 2 ∷ half F (suc (suc m)) ∷ []) (nonneg-pos (2 ^ (F - suc (suc (suc m)))) & none) (search reify depth 20) tt)
+  answer-size m h l = within-weaken (answer-room m h l) (lin (half F 2 ∷ half F (suc (suc m)) ∷ []) (nonneg-pos (2 ^ (F - suc (suc (suc m)))) & none)
+      (search reify depth 20) tt)
 
 -- minus the logarithm of a reciprocal is such a start
 pub log-within : (F : ℕ) → 3 ≤ F → {c s : 𝔾} → ReciprocalEntry F c s → Within s (pos 9 *ℤ half F 2)
@@ -93,10 +94,12 @@ module _ (F : ℕ) (narrow : F ≤ 48) (M : ℕ) (steps : StepTable) (promise : 
     S x = Sᵍ (2 ^ F) T x
 
     -- the product law below R = 9/4, with 4 U in place of 2^50
-    product : (x y w : 𝔾) (α β : ℤ) → Within x α → Within y β → pos 4 *ℤ (α +ℤ β) ⩽ pos 9 *ℤ two F → x +ᵍ y ≡ w → Within (ιᵍ (pos 4 *ℤ two F) *ᵍ (S x *ᵍ S y -ᵍ ιᵍ P *ᵍ S w)) (P *ℤ P)
+    product : (x y w : 𝔾) (α β : ℤ) → Within x α → Within y β → pos 4 *ℤ (α +ℤ β) ⩽ pos 9 *ℤ two F → x +ᵍ y ≡ w →
+        Within (ιᵍ (pos 4 *ℤ two F) *ᵍ (S x *ᵍ S y -ᵍ ιᵍ P *ᵍ S w)) (P *ℤ P)
     unfolding S P
     product x y w α β hx hy near e = subst (λ t. Within (ιᵍ (pos 4 *ℤ two F) *ᵍ (S x *ᵍ S y -ᵍ ιᵍ P *ᵍ S t)) (P *ℤ P)) e
-        (within-less _ (pos 4 *ℤ two F) (two 50) (record { le = tt }) (nonneg-pos (4 * 2 ^ F)) (two-mul-le 2 F 50 (omega arith)) (laws-at F .product hx hy near T enough))
+        (within-less _ (pos 4 *ℤ two F) (two 50) (record { le = tt }) (nonneg-pos (4 * 2 ^ F)) (two-mul-le 2 F 50 (omega arith))
+        (laws-at F .product hx hy near T enough))
 
     -- |G·Q − 1| ≤ (7/4) (n − 1) units
     Near : ℕ → Type 0
@@ -109,7 +112,8 @@ module _ (F : ℕ) (narrow : F ≤ 48) (M : ℕ) (steps : StepTable) (promise : 
     first-near : 10 ≤ F → Near 0
     unfolding Near a answer-at numer denom S P
     first-near h = subst₂ (λ w r. Within (ιᵍ (pos 4 *ℤ two F) *ᵍ w) r) shape (ring! ℤR (P ∷ []) (search reify depth 20) tt)
-        (factor (two F) P (pos 64) (pos 1) (pos 0) (ιᵍ (pos 1)) (ιᵍ P) (S (negᵍ s)) c (S s) (U≥2 h) P≥1 (record { le = tt }) (record { le = tt }) (record { le = tt }) (few-steps F 0 h) old short both (entry .rule T enough))
+        (factor (two F) P (pos 64) (pos 1) (pos 0) (ιᵍ (pos 1)) (ιᵍ P) (S (negᵍ s)) c (S s) (U≥2 h) P≥1 (record { le = tt }) (record { le = tt })
+        (record { le = tt }) (few-steps F 0 h) old short both (entry .rule T enough))
       where
         shape : S (negᵍ s) *ᵍ (c *ᵍ ιᵍ (pos 1)) -ᵍ ιᵍ P *ᵍ (ιᵍ (pos 64) *ᵍ ιᵍ (pos 1)) ≡ S (negᵍ s) *ᵍ c -ᵍ ιᵍ P *ᵍ ιᵍ (pos 64)
         shape = ring! 𝔾R (S (negᵍ s) ∷ c ∷ ιᵍ P ∷ []) (search reifyᵍ depth 20) tt
@@ -125,14 +129,18 @@ module _ (F : ℕ) (narrow : F ≤ 48) (M : ℕ) (steps : StepTable) (promise : 
 
         both : Within (ιᵍ (pos 4 *ℤ two F) *ᵍ (S (negᵍ s) *ᵍ S s -ᵍ ιᵍ P *ᵍ ιᵍ P)) (P *ℤ P)
         both = subst (λ w. Within (ιᵍ (pos 4 *ℤ two F) *ᵍ (S (negᵍ s) *ᵍ S s -ᵍ ιᵍ P *ᵍ w)) (P *ℤ P)) (S-zero (2 ^ F) T enough)
-            (product (negᵍ s) s (ιᵍ (pos 0)) _ _ (within-neg (s-size (omega arith))) (s-size (omega arith)) (lin (half F 2 ∷ two F ∷ []) (one-halves F 2 (omega arith) &≡ none) (search reify depth 20) tt) (ring! 𝔾R (s ∷ []) (search reifyᵍ depth 20) tt))
+            (product (negᵍ s) s (ιᵍ (pos 0)) _ _ (within-neg (s-size (omega arith))) (s-size (omega arith))
+            (lin (half F 2 ∷ two F ∷ []) (one-halves F 2 (omega arith) &≡ none) (search reify depth 20) tt) (ring! 𝔾R (s ∷ []) (search reifyᵍ depth 20) tt))
 
     -- a step
     next-near : (m : ℕ) → m + 11 ≤ F → index m ≤ M → N c ⩽ pos 15200 → Near m → Near (suc m)
     unfolding Near a answer-at numer denom S P z
-    next-near m h l small old = subst₂ (λ w r. Within (ιᵍ (pos 4 *ℤ two F) *ᵍ (S (a (suc m)) *ᵍ ((ιᵍ X +ᵍ d) *ᵍ q) -ᵍ ιᵍ P *ᵍ w)) (pos 7 *ℤ r *ℤ (P *ℤ (X *ℤ e)))) (sym (g-ι-mul X e)) more
-        (factor (two F) P X e (pos (suc m)) q (S (a m)) (S (a (suc m))) (ιᵍ X +ᵍ d) (S (z m)) (U≥2 (omega arith)) P≥1 (nonneg-pos (2 ^ index m)) (nonneg-pos (denom m)) (nonneg-pos (suc m))
-        (lin (pos m ∷ two F ∷ []) (few-steps F (suc m) (omega arith) & none) (search reify depth 20) tt) old (numer-within F v c small m) both (promise (index m) (omega arith) l d (digit-at-digit F v m) .rule T enough))
+    next-near m h l small old = subst₂ (λ w r. Within (ιᵍ (pos 4 *ℤ two F) *ᵍ (S (a (suc m)) *ᵍ ((ιᵍ X +ᵍ d) *ᵍ q) -ᵍ ιᵍ P *ᵍ w))
+        (pos 7 *ℤ r *ℤ (P *ℤ (X *ℤ e)))) (sym (g-ι-mul X e)) more
+        (factor (two F) P X e (pos (suc m)) q (S (a m)) (S (a (suc m))) (ιᵍ X +ᵍ d) (S (z m)) (U≥2 (omega arith)) P≥1 (nonneg-pos (2 ^ index m))
+        (nonneg-pos (denom m)) (nonneg-pos (suc m))
+        (lin (pos m ∷ two F ∷ []) (few-steps F (suc m) (omega arith) & none) (search reify depth 20) tt) old (numer-within F v c small m) both
+        (promise (index m) (omega arith) l d (digit-at-digit F v m) .rule T enough))
       where
         X : ℤ
         X = two (index m)
@@ -151,7 +159,8 @@ module _ (F : ℕ) (narrow : F ≤ 48) (M : ℕ) (steps : StepTable) (promise : 
 
         both : Within (ιᵍ (pos 4 *ℤ two F) *ᵍ (S (a (suc m)) *ᵍ S (z m) -ᵍ ιᵍ P *ᵍ S (a m))) (P *ℤ P)
         both = product (a (suc m)) (z m) (a m) _ _ (a-size (suc m) (omega arith) (omega arith)) (z-size m h l)
-            (lin (half F 2 ∷ half F (index m) ∷ two F ∷ []) (one-halves F 2 (omega arith) &≡ nonneg-pos (2 ^ (F - 3)) & none) (search reify depth 20) tt) (ring! 𝔾R (a m ∷ z m ∷ []) (search reifyᵍ depth 20) tt)
+            (lin (half F 2 ∷ half F (index m) ∷ two F ∷ []) (one-halves F 2 (omega arith) &≡ nonneg-pos (2 ^ (F - 3)) & none) (search reify depth 20) tt)
+            (ring! 𝔾R (a m ∷ z m ∷ []) (search reifyᵍ depth 20) tt)
 
     near : 10 ≤ F → N c ⩽ pos 15200 → (m : ℕ) → m + 10 ≤ F → m + 2 ≤ M → Near m
     near w small zero h l = first-near w
@@ -159,6 +168,7 @@ module _ (F : ℕ) (narrow : F ≤ 48) (M : ℕ) (steps : StepTable) (promise : 
 
     -- G·Q is one but for 7/4 of a unit for the reciprocal and each of the m steps
     pub answer-near : 10 ≤ F → N c ⩽ pos 15200 → (m : ℕ) → m + 10 ≤ F → m + 2 ≤ M →
-        Within (ιᵍ (pos 4 *ℤ two F) *ᵍ (Sᵍ (2 ^ F) T (answer-at F steps v (negᵍ s) m) *ᵍ numer F v c m -ᵍ ιᵍ (Dᶻ (2 ^ F) T) *ᵍ ιᵍ (pos (denom m)))) (pos 7 *ℤ pos (suc m) *ℤ (Dᶻ (2 ^ F) T *ℤ pos (denom m)))
+        Within (ιᵍ (pos 4 *ℤ two F) *ᵍ (Sᵍ (2 ^ F) T (answer-at F steps v (negᵍ s) m) *ᵍ numer F v c m -ᵍ ιᵍ (Dᶻ (2 ^ F) T) *ᵍ ιᵍ (pos (denom m))))
+        (pos 7 *ℤ pos (suc m) *ℤ (Dᶻ (2 ^ F) T *ℤ pos (denom m)))
     unfolding Near a S P
     answer-near w small m h l = near w small m h l

@@ -12,7 +12,8 @@ use Rattle.algebra.specs.Parts.{Parts, parts-within, within-parts}
 
 -- ---- to divide by A + f, |f| ≤ r ≤ A
 far-parts : (A r fx fy : ℤ) → r ⩽ A → negℤ r ⩽ fx → (A -ℤ r) *ℤ (A -ℤ r) ⩽ (A +ℤ fx) *ℤ (A +ℤ fx) +ℤ fy *ℤ fy
-far-parts A r fx fy h l = lin (A ∷ r ∷ fx ∷ fy ∷ []) (nonneg-mul (sub-nonneg l) (sub-nonneg l) & nonneg-mul (sub-nonneg h) (sub-nonneg l) & nonneg-sq fy & none) (search reify depth 20) tt
+far-parts A r fx fy h l = lin (A ∷ r ∷ fx ∷ fy ∷ []) (nonneg-mul (sub-nonneg l) (sub-nonneg l) & nonneg-mul (sub-nonneg h) (sub-nonneg l) & nonneg-sq fy & none)
+    (search reify depth 20) tt
 
 far : (A r : ℤ) (f : 𝔾) → r ⩽ A → Within f r → (A -ℤ r) *ℤ (A -ℤ r) ⩽ N (ιᵍ A +ᵍ f)
 unfolding ιᵍ _+ᵍ_
@@ -22,7 +23,8 @@ within-far : (A r : ℤ) (f y : 𝔾) (ρ : ℤ) → r ⩽ A → Within f r → 
 within-far A r f y ρ h w g = record {
   sign = g .sign;
   size = subst (λ t. t ⩽ ρ *ℤ ρ) (sym (N-scale (A -ℤ r) y))
-      (⩽-trans (lin (A ∷ r ∷ N y ∷ N (ιᵍ A +ᵍ f) ∷ []) (nonneg-mul (N-nonneg y) (sub-nonneg (far A r f h w)) & none) (search reify depth 20) tt) (subst (λ t. t ⩽ ρ *ℤ ρ) (N-mul y (ιᵍ A +ᵍ f)) (g .size)));
+      (⩽-trans (lin (A ∷ r ∷ N y ∷ N (ιᵍ A +ᵍ f) ∷ []) (nonneg-mul (N-nonneg y) (sub-nonneg (far A r f h w)) & none) (search reify depth 20) tt)
+      (subst (λ t. t ⩽ ρ *ℤ ρ) (N-mul y (ιᵍ A +ᵍ f)) (g .size)));
 }
 
 -- ---- U units to one, Z = 2^N, n = N − 1, t a quarter of U/2^N; up and down scale by 2^−k, B = U · 2^k; e the divisor of Q; x is M
@@ -86,10 +88,12 @@ module _ (U Z t n up down B e P x : ℤ) (w w′ v q g : 𝔾)
 
   right : Within (ιᵍ (pos 70) *ᵍ w *ᵍ (ιᵍ (pos 4) *ᵍ (ιᵍ P *ᵍ (ιᵍ (pos 140) *ᵍ Ω)) -ᵍ ιᵍ (pos 140) *ᵍ (ιᵍ down *ᵍ (ιᵍ (pos 4 *ℤ U) *ᵍ K)))) ρ
   unfolding K ρ
-  right = within-mul (parts-within w-size) (within-sub (within-scale (pos 4) (nonneg-pos 4) (within-scale P P≥0 Ω-size)) (within-scale (pos 140) (nonneg-pos 140) (within-scale down down≥0 near)))
+  right = within-mul (parts-within w-size) (within-sub (within-scale (pos 4) (nonneg-pos 4) (within-scale P P≥0 Ω-size))
+      (within-scale (pos 140) (nonneg-pos 140) (within-scale down down≥0 near)))
 
   -- the one identity
-  key : (m : 𝔾) → ιᵍ up *ᵍ ιᵍ B ≡ m → ιᵍ (pos 70) *ᵍ w *ᵍ (ιᵍ (pos 4) *ᵍ (ιᵍ P *ᵍ (ιᵍ (pos 140) *ᵍ (ιᵍ up *ᵍ w *ᵍ q -ᵍ m *ᵍ ιᵍ e))) -ᵍ ιᵍ (pos 140) *ᵍ (ιᵍ (pos 4) *ᵍ (m *ᵍ K)))
+  key : (m : 𝔾) → ιᵍ up *ᵍ ιᵍ B ≡ m → ιᵍ (pos 70) *ᵍ w *ᵍ (ιᵍ (pos 4) *ᵍ (ιᵍ P *ᵍ (ιᵍ (pos 140) *ᵍ (ιᵍ up *ᵍ w *ᵍ q -ᵍ m *ᵍ ιᵍ e))) -ᵍ ιᵍ (pos 140) *ᵍ
+      (ιᵍ (pos 4) *ᵍ (m *ᵍ K)))
       ≡ ιᵍ (pos 280) *ᵍ y *ᵍ (ιᵍ (pos 140) *ᵍ (m *ᵍ ιᵍ e) +ᵍ ιᵍ (pos 140) *ᵍ (ιᵍ up *ᵍ w *ᵍ q -ᵍ m *ᵍ ιᵍ e))
   unfolding K y
   key m h = subst (λ m. ιᵍ (pos 70) *ᵍ w *ᵍ (ιᵍ (pos 4) *ᵍ (ιᵍ P *ᵍ (ιᵍ (pos 140) *ᵍ (ιᵍ up *ᵍ w *ᵍ q -ᵍ m *ᵍ ιᵍ e))) -ᵍ ιᵍ (pos 140) *ᵍ (ιᵍ (pos 4) *ᵍ (m *ᵍ K)))
@@ -123,7 +127,8 @@ module _ (U Z t n up down B e P x : ℤ) (w w′ v q g : 𝔾)
   unfolding A r ρ
   enough = lin (U ∷ Z ∷ t ∷ n ∷ down ∷ e ∷ P ∷ x ∷ [])
       (ap (λ u. down *ℤ e *ℤ P *ℤ x *ℤ u) U-is &≡ nonneg-mul all≥0 (nonneg-mul Z≥0 (sub-nonneg t≥64)) & nonneg-mul all≥0 (nonneg-mul Z≥0 (sub-nonneg n≤39))
-      & nonneg-mul all≥0 (nonneg-mul t≥0 (sub-nonneg Z≥8)) & nonneg-mul all≥0 (sub-nonneg n≤Z) & nonneg-mul all≥0 (sub-nonneg Z≥8) & all≥0 & none) (search reify depth 20 fits 8000) tt
+      & nonneg-mul all≥0 (nonneg-mul t≥0 (sub-nonneg Z≥8)) & nonneg-mul all≥0 (sub-nonneg n≤Z) & nonneg-mul all≥0 (sub-nonneg Z≥8) & all≥0 & none)
+      (search reify depth 20 fits 8000) tt
     where
       all≥0 : pos 0 ⩽ down *ℤ e *ℤ P *ℤ x
       all≥0 = nonneg-mul (nonneg-mul (nonneg-mul down≥0 e≥0) P≥0) x≥0
@@ -132,7 +137,8 @@ module _ (U Z t n up down B e P x : ℤ) (w w′ v q g : 𝔾)
   unfolding y
   together = within-cancel (pos 280) (record { le = tt }) (within-cancel (A -ℤ r) r≤A
       (subst (λ z. Within z ((A -ℤ r) *ℤ (pos 280 *ℤ (pos 3 *ℤ x *ℤ P)))) shape
-      (within-weaken (within-scale Z Z≥0 (within-far A r (ιᵍ (pos 140) *ᵍ Ω) (ιᵍ (pos 280) *ᵍ y) ρ (lin (A ∷ r ∷ []) (r≤A & none) (search reify depth 20) tt) Ω-size left)) enough)))
+      (within-weaken (within-scale Z Z≥0 (within-far A r (ιᵍ (pos 140) *ᵍ Ω) (ιᵍ (pos 280) *ᵍ y) ρ
+      (lin (A ∷ r ∷ []) (r≤A & none) (search reify depth 20) tt) Ω-size left)) enough)))
     where
       shape : ιᵍ Z *ᵍ (ιᵍ (A -ℤ r) *ᵍ (ιᵍ (pos 280) *ᵍ y)) ≡ ιᵍ (A -ℤ r) *ᵍ (ιᵍ (pos 280) *ᵍ (ιᵍ Z *ᵍ y))
       shape = ring! 𝔾R (ιᵍ Z ∷ ιᵍ (A -ℤ r) ∷ y ∷ []) (search reifyᵍ depth 20) tt

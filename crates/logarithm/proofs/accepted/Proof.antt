@@ -85,9 +85,11 @@ returns c =
     let x = back (sfits-mag (r .run .result .answer .x) (u .before .struct-told3 .given .0 .1)) ∙ ap (λ (e : State). e .answer .x) ran in
     let y = back (sfits-mag (r .run .result .answer .y) (u .struct-told4 .given .1 .0 .1)) ∙ ap (λ (e : State). e .answer .y) ran in
     let k = back (exponent-fit u) ∙ (ap (λ b. b -ℤ pos 48) (word-is u ∙ ap pos (length-is l)) ∙ exponent-made (s .pre)) in
-    let q = back (sfits-mag (t .before .before .before .turned .result .quadrant) (t .before .struct-told .given .1 .0 .1)) ∙ ap (λ (e : Turn). e .quadrant) (t .before .before .before .turned .ensures) in
+    let q = back (sfits-mag (t .before .before .before .turned .result .quadrant) (t .before .struct-told .given .1 .0 .1)) ∙ ap (λ (e : Turn). e .quadrant)
+    (t .before .before .before .turned .ensures) in
     let b = back (sfits-mag (c .error-bound .result) (c .error-bound .ok)) ∙ (c .error-bound .ensures ∙ (ap (boundAt n) (x-is t) ∙ bound-made (s .pre))) in
     λ i. record { x = x i; y = y i; «binary_exponent» = k i; quadrant = q i; «error_bound» = b i }
 
 pub accepted-spec : {M : Type 1} → statement M
-accepted-spec = tie.close (tie.spec turned-requires bit-length-requires begun-requires run-requires cast-binary-exponent sub-binary-exponent error-bound-requires returns)
+accepted-spec = tie.close
+    (tie.spec turned-requires bit-length-requires begun-requires run-requires cast-binary-exponent sub-binary-exponent error-bound-requires returns)

@@ -20,7 +20,8 @@ use Rattle.logarithm.proofs.log.Tie as tie
 -- ---- the tests that were passed
 counted : (c : tie.Else1) → inSteps 48 3 (c .before .before .args .n) ≡ true
 unfolding inSteps
-counted c = let s = c .before .before in ap (between (pos 3) (pos 40)) (sym (back (s .fits .n))) ∙ (sym (c .before .is-between .ensures) ∙ not-false _ (c .if1 .left))
+counted c = let s = c .before .before in ap (between (pos 3) (pos 40)) (sym (back (s .fits .n))) ∙
+    (sym (c .before .is-between .ensures) ∙ not-false _ (c .if1 .left))
 
 inside : (c : tie.Else2) → inParts 48 (gauss (c .before .before .before .before .args .p)) ≡ true
 unfolding inParts
@@ -28,7 +29,11 @@ inside c = sym (c .before .is-in-box .ensures) ∙ not-false _ (c .if2 .left)
 
 allowed : (c : tie.Else3) → let s = c .before .before .before .before .before .before in Accepted 48 (s .args .n) (gauss (s .args .p))
 unfolding isZero
-allowed c = record { steps = counted (c .before .before .before .before); parts = inside (c .before .before); nonzero = sym (c .before .is-in-box2 .ensures) ∙ c .if3 .left }
+allowed c = record {
+  steps = counted (c .before .before .before .before);
+  parts = inside (c .before .before);
+  nonzero = sym (c .before .is-in-box2 .ensures) ∙ c .if3 .left;
+}
 
 -- ---- the needs
 is-between-requires : tie.Need-is-between-requires
@@ -38,8 +43,11 @@ returns : tie.Need-returns
 unfolding logAnswer inSteps
 returns c =
     let b = c .before in
-    let s = b .before in
-    (sym (refused-steps 48 stepTable reciprocalTable (s .args .n) (gauss (s .args .p)) (ap (between (pos 3) (pos 40)) (sym (back (s .fits .n))) ∙ (sym (b .is-between .ensures) ∙ not-true _ (c .if1 .taken)))), tt)
+    let s = b .before in (
+      sym (refused-steps 48 stepTable reciprocalTable (s .args .n) (gauss (s .args .p))
+          (ap (between (pos 3) (pos 40)) (sym (back (s .fits .n))) ∙ (sym (b .is-between .ensures) ∙ not-true _ (c .if1 .taken)))),
+      tt,
+    )
 
 is-in-box-requires : tie.Need-is-in-box-requires
 is-in-box-requires c κs = search needs
@@ -48,8 +56,11 @@ returns-2 : tie.Need-returns-2
 unfolding logAnswer inParts
 returns-2 c =
     let b = c .before in
-    let s = b .before .before .before in
-    (sym (refused-part 48 stepTable reciprocalTable (s .args .n) (gauss (s .args .p)) (counted (b .before)) (sym (b .is-in-box .ensures) ∙ not-true _ (c .if2 .taken))), tt)
+    let s = b .before .before .before in (
+      sym (refused-part 48 stepTable reciprocalTable (s .args .n) (gauss (s .args .p)) (counted (b .before))
+          (sym (b .is-in-box .ensures) ∙ not-true _ (c .if2 .taken))),
+      tt,
+    )
 
 is-in-box-requires-2 : tie.Need-is-in-box-requires-2
 is-in-box-requires-2 c κs = search needs
@@ -59,8 +70,11 @@ unfolding logAnswer isZero
 returns-3 c =
     let b = c .before in
     let a = b .before in
-    let s = a .before .before .before .before in
-    (sym (refused-zero 48 stepTable reciprocalTable (s .args .n) (gauss (s .args .p)) (counted (a .before .before)) (inside a) (sym (b .is-in-box2 .ensures) ∙ c .if3 .taken)), tt)
+    let s = a .before .before .before .before in (
+      sym (refused-zero 48 stepTable reciprocalTable (s .args .n) (gauss (s .args .p)) (counted (a .before .before)) (inside a)
+          (sym (b .is-in-box2 .ensures) ∙ c .if3 .taken)),
+      tt,
+    )
 
 cast-accepted : tie.Need-cast-accepted
 cast-accepted c =
@@ -74,11 +88,13 @@ accepted-requires c κs =
     let h = steps-say 48 3 (s .args .n) (allowed c .steps) in
     subst (λ n. Accepted 48 n (gauss (s .args .p))) (h .whole ∙ ap (λ n. pos (natAbs n)) (sym (back (s .fits .n)))) (allowed c)
 
-made : (c : tie.After-accepted) → let s = c .before .before .before .before .before .before .before in Answered (c .accepted .result) ≡ logAnswer (s .args .n) (s .args .p .x) (s .args .p .y)
+made : (c : tie.After-accepted) → let s = c .before .before .before .before .before .before .before in Answered (c .accepted .result) ≡ logAnswer (s .args .n)
+    (s .args .p .x) (s .args .p .y)
 unfolding logAnswer
 made c =
     let s = c .before .before .before .before .before .before .before in
-    ap Answered (c .accepted .ensures ∙ ap (λ n. figuresOf (natAbs n) (s .args .p)) (back (s .fits .n))) ∙ sym (answered 48 stepTable reciprocalTable (s .args .n) (gauss (s .args .p)) (allowed (c .before)))
+    ap Answered (c .accepted .ensures ∙ ap (λ n. figuresOf (natAbs n) (s .args .p)) (back (s .fits .n))) ∙ sym
+    (answered 48 stepTable reciprocalTable (s .args .n) (gauss (s .args .p)) (allowed (c .before)))
 
 returns-4 : tie.Need-returns-4
 returns-4 c =

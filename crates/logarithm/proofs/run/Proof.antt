@@ -1,4 +1,4 @@
--- `logarithm::run` meets its contract. The invariant: k is from 2 to n, and the point and the answer are those after the steps 3 to k.
+-- `logarithm::run` meets its contract. The invariant: the point and the answer are those after the steps 3 to k, k at most n.
 use mathlib.Core.Path.{_≡_, refl, sym, _∙_, ap, ap₂, subst}
 use Prim.Native.Nat.{suc, _-_, _≤_}
 use native.Mathlib.Numerals.{add-one}
@@ -14,31 +14,28 @@ use Rattle.tables.specs.Listed.{place}
 use Rattle.tables.specs.Promise.{look}
 use Rattle.tables.specs.Table.{stepTable}
 use Rattle.tables.specs.Rows.{entry, number, none, stepRow, row-entry}
-use Rattle.logarithm.specs.Select.{select}
+use Rattle.logarithm.specs.Select.{select, select-digit}
 use Rattle.logarithm.specs.Run.{point-at, answer-at}
 use Rattle.logarithm.specs.Code.{LessPre, runOf}
-use Rattle.logarithm.specs.Steps.{point-ok, select-ok, digit-ok, less-ok, again-point, again-answer}
+use Rattle.logarithm.specs.Steps.{After, point-ok, select-ok, less-ok, next}
 use Rattle.logarithm.proofs.run.Statement.{statement}
 use Rattle.logarithm.proofs.run.Tie as tie
 
 abbrev Inv-loop : tie.InvT-loop
-Inv-loop n v₀ a₀ k₀ v a k = (2 ≤ k) × ((k ≤ n) × ((gauss v ≡ point-at 48 (gauss v₀) (k - 2)) × (gauss a ≡ answer-at 48 stepTable (gauss v₀) (gauss a₀) (k - 2))))
+Inv-loop n v₀ a₀ k₀ v a k = (k ≤ n) × After (record { point = v₀; answer = a₀ }) k v a
 
 abbrev μ-loop : tie.MeasureT-loop
 μ-loop n v₀ a₀ k₀ v a k = n - k
 
 loop-holds : tie.Need-loop-holds Inv-loop μ-loop
 unfolding point-at answer-at
-loop-holds c = (omega arith, (c .before .before .pre .least, (refl, refl)))
+loop-holds c = (c .before .before .pre .least, record { least = omega arith; point = refl; answer = refl })
 
 add-k : tie.Need-add-k Inv-loop μ-loop
 add-k c = omega arith
 
 selected-requires : tie.Need-selected-requires Inv-loop μ-loop
-selected-requires c κs =
-    let l = c .before in
-    let i = l .loop .inv in
-    rw (add-one (l .loop .k)) (select-ok (l .before .before .before .pre) (l .loop .k) (i .0) (omega arith) (l .loop .v) (l .loop .a) (i .1 .1 .0) (i .1 .1 .1))
+selected-requires c κs = let l = c .before in rw (add-one (l .loop .k)) (select-ok (l .before .before .before .pre) (l .loop .inv .1) (omega arith))
 
 row-requires : tie.Need-row-requires Inv-loop μ-loop
 row-requires c κs = tt
@@ -46,35 +43,40 @@ row-requires c κs = tt
 pick-requires : tie.Need-pick-requires Inv-loop μ-loop
 pick-requires c κs = tt
 
--- the digit, and the entry that was picked
+-- the digit of the step, and the entry that was picked
 chosen : (c : tie.After-selected Inv-loop μ-loop) → let l = c .before .before in c .selected .result ≡ digit (select 48 (suc (l .loop .k)) (gauss (l .loop .v)))
 chosen c = let l = c .before .before in c .selected .ensures ∙ ap (λ k. digit (select 48 k (gauss (l .loop .v)))) (add-one (l .loop .k))
 
-picked : (c : tie.After-pick Inv-loop μ-loop) → let l = c .before .before .before .before .before .before in c .pick .result ≡ entry (look stepTable (suc (l .loop .k)) (select 48 (suc (l .loop .k)) (gauss (l .loop .v))))
+picked : (c : tie.After-pick Inv-loop μ-loop) → let l = c .before .before .before .before .before .before in
+    c .pick .result ≡ entry (look stepTable (suc (l .loop .k)) (select 48 (suc (l .loop .k)) (gauss (l .loop .v))))
 picked c =
     let r = c .before in
     let t = r .before .before in
     let s = t .before in
-    let l = s .before .before in
+    let k = s .before .before .loop .k in
     let dx = back (sfits-mag (s .selected .result .dx) (t .struct-told .given .0 .1)) ∙ ap (λ (d : Digit). d .dx) (chosen s) in
     let dy = back (sfits-mag (s .selected .result .dy) (r .before .struct-told2 .given .1 .0 .1)) ∙ ap (λ (d : Digit). d .dy) (chosen s) in
-    let row = r .row .ensures .0 ∙ ap₂ stepRow (add-one (l .loop .k)) dx in
-    c .pick .ensures ∙ (ap₂ (λ x y. getD x (place y) none) row dy ∙ row-entry (suc (l .loop .k)) _ _)
+    let row = r .row .ensures .0 ∙ ap₂ stepRow (add-one k) dx in
+    c .pick .ensures ∙ (ap₂ (λ x y. getD x (place y) none) row dy ∙ row-entry (suc k) _ _)
 
 step-requires : tie.Need-step-requires Inv-loop μ-loop
 step-requires c κs =
     let s = c .before .before .before .before in
     let l = s .before .before in
-    let i = l .loop .inv in
     let p = l .before .before .before .pre in
-    (point-ok p (l .loop .k) (i .0) (omega arith) (l .loop .v) (l .loop .a) (i .1 .1 .0) (i .1 .1 .1), (subst (λ d. IsDigit (gaussᵈ d)) (sym (chosen s)) (digit-ok p (l .loop .k) (i .0) (omega arith) (l .loop .v) (l .loop .a) (i .1 .1 .0) (i .1 .1 .1)), omega (arith, p .most)))
+    let i = l .loop .inv .1 in (
+      point-ok p i (omega arith),
+      (
+        subst (λ d. IsDigit (gaussᵈ d)) (sym (chosen s)) (select-digit 48 (suc (l .loop .k)) (gauss (l .loop .v))),
+        omega (arith, p .most),
+      ),
+    )
 
 less-requires : tie.Need-less-requires Inv-loop μ-loop
 less-requires c κs =
     let q = c .before in
     let l = q .before .before .before .before .before .before in
-    let i = l .loop .inv in
-    subst (λ t. LessPre (l .loop .a) t) (sym (picked q)) (less-ok (l .before .before .before .pre) (l .loop .k) (i .0) (omega arith) (l .loop .v) (l .loop .a) (i .1 .1 .0) (i .1 .1 .1))
+    subst (LessPre (l .loop .a)) (sym (picked q)) (less-ok (l .before .before .before .pre) (l .loop .inv .1) (omega arith))
 
 loop-less : tie.Need-loop-less Inv-loop μ-loop
 loop-less c = omega arith
@@ -84,22 +86,16 @@ loop-again c =
     let q = c .before .before in
     let s = q .before .before .before .before in
     let l = s .before .before in
-    let k = l .loop .k in
-    let v = l .loop .v in
-    let a = l .loop .a in
-    let i = l .loop .inv in
-    let b = l .before .before .before in
-    let z = gauss (b .args .s .point) in
-    let moved = ap gauss (c .before .step .ensures) ∙ (ap₂ (λ j (d : Digit). step j (gaussᵈ d) (gauss v)) (add-one k) (chosen s) ∙ again-point (b .pre) k (i .0) (omega arith) v a (i .1 .1 .0) (i .1 .1 .1)) in
-    let lost = ap gauss (c .less .ensures) ∙ (ap (λ t. gauss a -ᵍ number t) (picked q) ∙ again-answer (b .pre) k (i .0) (omega arith) v a (i .1 .1 .0) (i .1 .1 .1)) in
-    (omega arith, (omega arith, (moved ∙ ap (λ j. point-at 48 z (j - 2)) (sym (add-one k)), lost ∙ ap (λ j. answer-at 48 stepTable z (gauss (b .args .s .answer)) (j - 2)) (sym (add-one k)))))
+    let moved = ap gauss (c .before .step .ensures) ∙ ap₂ (λ j (d : Digit). step j (gaussᵈ d) (gauss (l .loop .v))) (add-one (l .loop .k)) (chosen s) in
+    let lost = ap gauss (c .less .ensures) ∙ ap (λ t. gauss (l .loop .a) -ᵍ number t) (picked q) in
+    (omega arith, rw (add-one (l .loop .k)) (next (l .before .before .before .pre) (l .loop .inv .1) (omega arith) (c .before .step .result) (c .less .result) moved lost))
 
 returns : tie.Need-returns Inv-loop μ-loop
 returns c =
     let l = c .before in
     let s = l .before .before .before in
     let e : l .loop .k ≡ s .args .n = omega arith in
-    ap₂ (λ z y. record { point = point z; answer = point y }) (l .loop .inv .1 .1 .0) (l .loop .inv .1 .1 .1) ∙ ap (λ k. runOf k (s .args .s)) e
+    ap₂ (λ z y. record { point = point z; answer = point y }) (l .loop .inv .1 .point) (l .loop .inv .1 .answer) ∙ ap (λ k. runOf k (s .args .s)) e
 
 pub run-spec : {M : Type 1} → statement M
 run-spec =

@@ -35,7 +35,8 @@ returns c =
     let s = r .before in
     let h = half-word (s .args .n) (s .pre .most) in
     let ux = back (sfits-mag (r .residual .result .x) (told .struct-told .given .0 .1)) ∙ ap (λ (p : Point). p .x) (r .residual .ensures) in
-    let uy = back (sfits-mag (r .residual .result .y) (b .before .struct-told2 .given .1 .0 .1)) ∙ (ap (λ (p : Point). p .y) (r .residual .ensures) ∙ +ℤ-idr (s .args .v .y)) in
+    let uy = back (sfits-mag (r .residual .result .y) (b .before .struct-told2 .given .1 .0 .1)) ∙
+    (ap (λ (p : Point). p .y) (r .residual .ensures) ∙ +ℤ-idr (s .args .v .y)) in
     let dx = back (sfits-mag (b .digit-part .result) (b .digit-part .ok)) ∙ (b .digit-part .ensures ∙ ap₂ cut h ux) in
     let dy = back (sfits-mag (c .digit-part2 .result) (c .digit-part2 .ok)) ∙ (c .digit-part2 .ensures ∙ ap₂ cut h uy) in
     λ i. record { dx = dx i; dy = dy i }

@@ -33,7 +33,8 @@ returns-2 c =
     let b = c .before .before in
     let p = b .before .before .before .args .p in
     let e = b .turned-back .ensures in
-    turn-made p (b .turned-back .result) 1 _ (quarters-by (gauss p) (first (b .before)) (ap (λ w. inCone (gauss w)) (sym e) ∙ (sym (c .before .in-cone2 .ensures) ∙ c .if2 .taken)) refl) e refl
+    turn-made p (b .turned-back .result) 1 _ (quarters-by (gauss p) (first (b .before))
+    (ap (λ w. inCone (gauss w)) (sym e) ∙ (sym (c .before .in-cone2 .ensures) ∙ c .if2 .taken)) refl) e refl
 
 second : (c : tie.Else2) → inCone (turn-back (gauss (c .before .before .before .before .before .args .p))) ≡ false
 second c = ap (λ w. inCone (gauss w)) (sym (c .before .before .turned-back .ensures)) ∙ (sym (c .before .in-cone2 .ensures) ∙ c .if2 .left)
@@ -54,10 +55,12 @@ returns-3 c =
     let a = b .before in
     let p = a .before .before .before .before .before .args .p in
     let e = twice b in
-    turn-made p (b .turned-back2 .result) 2 _ (quarters-by (gauss p) (first (a .before .before .before)) (second a) (ap (λ w. inCone (gauss w)) (sym e) ∙ (sym (c .before .in-cone3 .ensures) ∙ c .if3 .taken))) e refl
+    turn-made p (b .turned-back2 .result) 2 _ (quarters-by (gauss p) (first (a .before .before .before)) (second a)
+    (ap (λ w. inCone (gauss w)) (sym e) ∙ (sym (c .before .in-cone3 .ensures) ∙ c .if3 .taken))) e refl
 
 turned-back-requires-3 : tie.Need-turned-back-requires-3
-turned-back-requires-3 c κs = rw (twice (c .before .before)) (parts-turn-back (parts-turn-back (c .before .before .before .before .before .before .before .before .pre)))
+turned-back-requires-3 c κs = rw (twice (c .before .before))
+    (parts-turn-back (parts-turn-back (c .before .before .before .before .before .before .before .before .pre)))
 
 returns-4 : tie.Need-returns-4
 unfolding turns-back spelling

@@ -21,7 +21,8 @@ returns : tie.Need-returns
 returns c =
     let t = c .before in
     let s = t .before in
-    c .conjugate2 .ensures ∙ (ap (λ p. point (conj (gauss p))) (t .quarter-turn .ensures ∙ ap (λ p. point (iᵍ *ᵍ gauss p)) (s .conjugate .ensures)) ∙ ap point (turn-back-is (gauss (s .before .args .p))))
+    c .conjugate2 .ensures ∙ (ap (λ p. point (conj (gauss p))) (t .quarter-turn .ensures ∙ ap (λ p. point (iᵍ *ᵍ gauss p)) (s .conjugate .ensures)) ∙ ap point
+    (turn-back-is (gauss (s .before .args .p))))
 
 pub turned-back-spec : {M : Type 1} → statement M
 turned-back-spec = tie.close (tie.spec conjugate-requires quarter-turn-requires conjugate-requires-2 returns)
