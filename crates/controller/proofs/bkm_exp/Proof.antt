@@ -1,0 +1,35 @@
+-- `controller::bkm_exp` meets its contract.
+use mathlib.Core.Path.{ap, _∙_}
+use Rattle.word.specs.Fits.{back, sfits-mag}
+use Rattle.exponential.specs.Answer.{expRecord}
+use borrow.Author.Needs.{needs}
+use Rattle.controller.proofs.bkm_exp.Statement.{statement}
+use Rattle.controller.proofs.bkm_exp.Tie as tie
+
+exp-requires : tie.Need-exp-requires
+exp-requires c κs = search needs
+
+exp-record-requires : tie.Need-exp-record-requires
+exp-record-requires c κs = search needs
+
+hand-over-requires : tie.Need-hand-over-requires
+hand-over-requires c κs = search needs
+
+same-length : tie.Need-same-length
+same-length c = search needs
+
+returns : tie.Need-returns
+returns c =
+    let h = c .before .before in
+    let r = h .before .before in
+    let a = r .before in
+    let s = a .before .before in
+    let is = r .exp-record .ensures
+    ∙ ap expRecord
+    (rw (back (s .fits .n), back (s .fits .ex), back (s .fits .ey), back (s .fits .sx), back (s .fits .sy)) at (a .exp .ensures .0)) in
+    let told = rw is at (h .hand-over .ensures) in
+    (back (sfits-mag _ (h .hand-over .ok)) ∙ told .0, told .1)
+
+pub bkm-exp-spec : {M : Type 1} → statement M
+bkm-exp-spec =
+    tie.close (tie.spec exp-requires exp-record-requires hand-over-requires same-length returns)

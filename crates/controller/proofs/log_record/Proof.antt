@@ -1,0 +1,37 @@
+-- `controller::log_record` meets its contract.
+use Rattle.word.specs.Fits.{back, sfits-mag}
+use Rattle.logarithm.specs.Answer.{logRecord}
+use borrow.Author.Needs.{needs}
+use Rattle.controller.proofs.log_record.Statement.{statement}
+use Rattle.controller.proofs.log_record.Tie as tie
+
+enum-known-answer : tie.Need-enum-known-answer
+enum-known-answer c = search needs
+
+enum-known-answer-2 : tie.Need-enum-known-answer-2
+enum-known-answer-2 c = search needs
+
+number-requires : tie.Need-number-requires
+number-requires c κs = search needs
+
+returns : tie.Need-returns
+unfolding logRecord
+returns c =
+    let a = c .before .before .before .before .before .before .answer in
+    let f = a .given .0 .0 in
+    rw (
+      a .given .1,
+      back (sfits-mag (f .x) (c .before .before .before .before .struct-told .given .0 .1)),
+      back (sfits-mag (f .y) (c .before .before .before .struct-told2 .given .1 .0 .1)),
+      back (sfits-mag (f .«binary_exponent») (c .before .before .struct-told3 .given .1 .1 .0 .1)),
+      back (sfits-mag (f .quadrant) (c .before .struct-told4 .given .1 .1 .1 .0 .1)),
+      back (sfits-mag (f .«error_bound») (c .struct-told5 .given .1 .1 .1 .1 .0 .1)),
+    )
+
+returns-2 : tie.Need-returns-2
+unfolding logRecord
+returns-2 c = rw (c .before .before .answer2 .given .1, back (sfits-mag (c .number .result) (c .number .ok)), c .number .ensures)
+
+pub log-record-spec : {M : Type 1} → statement M
+log-record-spec =
+    tie.close (tie.spec enum-known-answer enum-known-answer-2 number-requires returns returns-2)

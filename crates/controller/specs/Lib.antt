@@ -1,0 +1,2 @@
+-- What the C calls hand back and write.
+pub mod Record

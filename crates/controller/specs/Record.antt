@@ -1,0 +1,44 @@
+-- The record of a C call: an answer's numbers, eight bytes each, low byte first (01, Points and units).
+use mathlib.Core.Path.{_≡_, refl}
+use mathlib.Core.Bool.{cond}
+use mathlib.Core.List.{List, [], _∷_, _++_}
+use Prim.Native.Nat.{ℕ, _+_, _*_, _≤_, _<_}
+use native.Mathlib.Numerals.{add-one}
+use lib.Dec.{ltb}
+use lib.IntN.{ℤ, pos, negsuc}
+use lib.ListN.{length, getD, drop, drop-of-length-le}
+use lib.Seq.{drop-cons}
+use Rattle.word.specs.Bytes.{bytes, signed-bytes, length-bytes, encode, length-encode, poke, poke-append, poke-front}
+
+-- ---- a buffer under 48 bytes is refused with 6, and nothing is written
+abbrev pub handed : List ℕ → List ℤ → ℤ
+handed out numbers = cond (ltb (length out) 48) (pos 6) (getD numbers 0 (pos 0))
+
+-- the bytes past the 48 keep their values
+abbrev pub written : List ℕ → List ℤ → List ℕ
+written out numbers = cond (ltb (length out) 48) out (encode numbers ++ drop 48 out)
+
+-- "two's complement, low byte first": 258 and −2
+low-byte-first : encode (pos 258 ∷ negsuc 1 ∷ []) ≡ 2 ∷ 1 ∷ 0 ∷ 0 ∷ 0 ∷ 0 ∷ 0 ∷ 0 ∷ 254 ∷ 255 ∷ 255 ∷ 255 ∷ 255 ∷ 255 ∷ 255 ∷ 255 ∷ []
+unfolding encode bytes
+low-byte-first = refl
+
+-- ---- number by number
+pub encode-more : (zs : List ℤ) (i : ℕ) → i < length zs → encode (drop i zs) ≡ signed-bytes (getD zs i (pos 0)) ++ encode (drop (i + 1) zs)
+unfolding encode
+encode-more zs i h = rw (add-one, drop-cons zs i (pos 0) h)
+
+pub encode-none : (zs : List ℤ) (i : ℕ) → length zs ≤ i → encode (drop i zs) ≡ []
+unfolding encode
+encode-none zs i h = rw (drop-of-length-le zs h)
+
+pub poke-number : (b : List ℕ) (k : ℕ) (z : ℤ) (ys : List ℕ) → poke (poke b k (signed-bytes z)) (k + 8) ys ≡ poke b k (signed-bytes z ++ ys)
+poke-number b k z ys = rw (length-bytes 8) at (poke-append (signed-bytes z) ys b k)
+
+-- all of them written: from the front, and then what stood behind them
+pub encode-front : (zs : List ℤ) (b : List ℕ) → 8 * length zs ≤ length b → poke b 0 (encode zs) ≡ encode zs ++ drop (8 * length zs) b
+encode-front zs b h = rw length-encode at (poke-front (encode zs) b (rw length-encode h))
+
+pub poke-none : (b xs : List ℕ) (k : ℕ) → xs ≡ [] → poke b k xs ≡ b
+unfolding poke
+poke-none b xs k e = rw e

@@ -1,0 +1,66 @@
+/* EXP and LOG of points in units of 1/2^48: the C face of the library.
+ *
+ * Link target/staticlib/libcontroller.a, which `rt staticlib controller` writes.
+ *
+ * A point is a pair of signed 64-bit numbers of units, so one is 281474976710656.
+ * Each call writes a record of 48 bytes to out: six signed 8-byte numbers, two's
+ * complement, low byte first.
+ *
+ *     bytes  0 to  7   the refusal number, or 0
+ *            8 to 15   the first part of the answer, in units
+ *           16 to 23   the second part, in units
+ *           24 to 31   k, the binary exponent (0 for EXP)
+ *           32 to 39   q, the quadrant, 0 to 3 (0 for EXP)
+ *           40 to 47   the error bound, in units
+ *
+ * The call returns the refusal number, or 0. In a refused record the other five
+ * numbers are 0. Refusals, the first that holds:
+ *
+ *     6   out_len is under 48; nothing is written
+ *     1   n is out of range
+ *     2   EXP: the exponent lies outside the rectangle
+ *     3   a part of the start or of the point is over 2^58 in size
+ *     4   LOG: the point is zero
+ *
+ * out points to out_len bytes that the caller lends; those past the 48 keep their
+ * values. Every input is allowed; no call fails in another way, keeps memory or has
+ * state of its own.
+ */
+#ifndef BKM_H
+#define BKM_H
+
+#include <stddef.h>
+#include <stdint.h>
+
+#ifdef __cplusplus
+extern "C" {
+#endif
+
+/* The start (sx, sy) times the exponential of (ex, ey)/2^48, by n steps.
+ *
+ *     n             1 to 40
+ *     ex            -233096465088512 to 241892558110720, that is -53/64 to 55/64
+ *     ey            at most 206708186021888 in size, that is 47/64
+ *     sx, sy        at most 2^58 in size
+ *
+ * Each part of the answer is off by at most the error bound, which is 8*M/2^n
+ * rounded up, plus 3*n; M is the larger of the sizes of sx and sy.
+ */
+int64_t bkm_exp(int64_t n, int64_t ex, int64_t ey, int64_t sx, int64_t sy, uint8_t *out, size_t out_len);
+
+/* The logarithm of the point (x, y), by steps 3 to n.
+ *
+ *     n             3 to 40
+ *     x, y          at most 2^58 in size, not both zero
+ *
+ * With z the answer over 2^48, the point is 2^(48+k) * i^q * exp(z), each part in
+ * units off by at most the error bound, which is 3*M/2^n rounded up; M is the larger
+ * of the sizes of x and y.
+ */
+int64_t bkm_log(int64_t n, int64_t x, int64_t y, uint8_t *out, size_t out_len);
+
+#ifdef __cplusplus
+}
+#endif
+
+#endif

@@ -1,0 +1,56 @@
+//! The product's C calls, wrapped.
+
+use reference::answer::{write_record, Answer, RECORD_BYTES};
+use reference::{exponential, logarithm};
+
+// A lent buffer is passed as its address and its length.
+extern "C" {
+    fn bkm_exp(n: i64, ex: i64, ey: i64, sx: i64, sy: i64, out: *mut u8, len: usize) -> i64;
+    fn bkm_log(n: i64, x: i64, y: i64, out: *mut u8, len: usize) -> i64;
+}
+
+// Inlined, so that a test which makes one call links without the other.
+
+#[inline]
+pub fn exp(input: exponential::Input, out: &mut [u8]) -> i64 {
+    let exponential::Input { n, ex, ey, sx, sy } = input;
+    // SAFETY: the pointer and the length are those of one exclusive slice.
+    unsafe { bkm_exp(n, ex, ey, sx, sy, out.as_mut_ptr(), out.len()) }
+}
+
+#[inline]
+pub fn log(input: logarithm::Input, out: &mut [u8]) -> i64 {
+    let logarithm::Input { n, x, y } = input;
+    // SAFETY: as above.
+    unsafe { bkm_log(n, x, y, out.as_mut_ptr(), out.len()) }
+}
+
+/// What a call hands back and writes into 48 bytes.
+pub type Outcome = (i64, [u8; RECORD_BYTES]);
+
+pub fn expected(answer: Answer) -> Outcome {
+    let mut out = [0; RECORD_BYTES];
+    (write_record(answer, &mut out), out)
+}
+
+pub fn observed(call: impl FnOnce(&mut [u8]) -> i64) -> Outcome {
+    let mut out = [0xa5; RECORD_BYTES];
+    (call(&mut out), out)
+}
+
+/// Lends buffers of every length up to 200, at every alignment, between bytes that must
+/// stay as they are.
+pub fn check_buffers(answer: Answer, call: impl Fn(&mut [u8]) -> i64) {
+    const MARGIN: usize = 64;
+    for length in 0..=200 {
+        for offset in 0..8 {
+            let canary = |i: usize| (i * 37 + length * 11 + offset) as u8;
+            let mut seen: Vec<u8> = (0..length + 2 * MARGIN).map(canary).collect();
+            let mut wanted = seen.clone();
+            let lent = MARGIN - offset..MARGIN - offset + length;
+            let handed = call(&mut seen[lent.clone()]);
+            assert_eq!(handed, write_record(answer, &mut wanted[lent]), "{length} bytes");
+            assert_eq!(seen, wanted, "{length} bytes");
+        }
+    }
+}
