@@ -1,0 +1,169 @@
+-- `text::read_line` meets its contract: the serial, the kind, and the numbers that it asks for.
+use mathlib.Core.Path.{_≡_, ap, sym, _∙_}
+use mathlib.Core.Bool.{cond}
+use mathlib.Core.List.{List}
+use Prim.Native.Nat.{ℕ, _+_}
+use lib.IntN.{ℤ, pos}
+use lib.Seq.{slice}
+use mir.Syntax.{w64}
+use mir.Val.{SFits}
+use Rattle.algebra.specs.Order.{_⩽_, _⋖_}
+use Rattle.word.specs.Fits.{back, sfits-mag}
+use Rattle.word.specs.Compare.{ltZ-true, ltZ-false, between, is-between, below-between, above-between}
+use Rattle.text.specs.Fields.{fieldsAt}
+use Rattle.text.specs.Line.{readLine, serialLine, kindLine}
+use Rattle.text.specs.Parse.{serial-field, kind-missing, kind-field, byKind}
+use Rattle.text.specs.declared.Line.the-variants.{Malformed}
+use borrow.Author.Needs.{needs}
+use Rattle.text.proofs.read_line.Statement.{statement}
+use Rattle.text.proofs.read_line.Tie as tie
+
+-- what is left to read behind the first field
+front : (c : tie.After-read-number) → readLine (c .before .before .before .args .s .now)
+    ≡ serialLine (c .read-number .result) (fieldsAt (c .before .before .before .args .s .now) (c .before .field-end .result + 1))
+front c =
+    let rest = fieldsAt (c .before .before .before .args .s .now) (c .before .field-end .result + 1) in
+    serial-field (c .before .field-end .ensures) ∙ ap (λ n. serialLine n rest) (sym (c .read-number .ensures))
+
+-- once its number is known
+module _ (c : tie.After-known-told) where
+  abbrev line : List ℕ
+  line = c .before .before .before .before .before .before .args .s .now
+
+  abbrev serial : ℤ
+  serial = c .before .serial .given .0 .0
+
+  abbrev next : ℕ
+  next = c .before .before .before .before .field-end .result + 1
+
+  fits : SFits w64 serial
+  fits = sfits-mag serial (c .known-told .given .0 .1)
+
+  ranged : readLine line ≡ cond (between (pos 1) (pos 9999999) serial) (kindLine serial (fieldsAt line next)) Malformed
+  ranged = front (c .before .before .before) ∙ ap (λ n. serialLine n (fieldsAt line next)) (c .before .serial .given .1)
+
+-- once that is in its range
+kinds : (c : tie.Else2) → readLine (line (c .before .before)) ≡ kindLine (serial (c .before .before))
+    (fieldsAt (line (c .before .before)) (next (c .before .before)))
+kinds c =
+    let k = c .before .before in
+    let least : pos 1 ⩽ serial k = ltZ-false (rw (back (fits k)) at (c .before .if1 .left)) in
+    let most : serial k ⩽ pos 9999999 = ltZ-false (rw (back (fits k)) at (c .if2 .left)) in
+    rw (is-between least most) at (ranged k)
+
+-- once the kind is found
+module _ (c : tie.After-field-end2) where
+  abbrev told : tie.After-known-told
+  told = c .before .before .before .before
+
+  words : readLine (line told) ≡ byKind (serial told) (slice (next told) (c .field-end2 .result) (line told)) (fieldsAt (line told) (c .field-end2 .result + 1))
+  words = kinds (c .before .before) ∙ kind-field (serial told) (c .before .if3 .left) (c .field-end2 .ensures)
+
+field-end-requires : tie.Need-field-end-requires
+field-end-requires c κs = search needs
+
+read-number-requires : tie.Need-read-number-requires
+read-number-requires c κs = search needs
+
+enum-known-serial : tie.Need-enum-known-serial
+enum-known-serial c = search needs
+
+enum-told : tie.Need-enum-told
+enum-told c = search needs
+
+returns : tie.Need-returns
+returns c = rw (front (c .before .before), c .enum-told .given .1)
+
+returns-2 : tie.Need-returns-2
+returns-2 c =
+    let k = c .before in
+    let under : serial k ⋖ pos 1 = ltZ-true (rw (back (fits k)) at (c .if1 .taken)) in
+    rw (ranged k, below-between (pos 9999999) under)
+
+returns-3 : tie.Need-returns-3
+returns-3 c =
+    let k = c .before .before in
+    let over : pos 9999999 ⋖ serial k = ltZ-true (rw (back (fits k)) at (c .if2 .taken)) in
+    rw (ranged k, above-between (pos 1) over)
+
+add-at : tie.Need-add-at
+add-at c = search needs
+
+returns-4 : tie.Need-returns-4
+returns-4 c =
+    let k = c .before .before .before in
+    rw (kinds (c .before), kind-missing (serial k) (line k) (next k) (c .if3 .taken))
+
+field-end-requires-2 : tie.Need-field-end-requires-2
+field-end-requires-2 c κs = search needs
+
+slice-aggregate-is-word : tie.Need-slice-aggregate-is-word
+slice-aggregate-is-word c = search needs
+
+is-word-requires : tie.Need-is-word-requires
+is-word-requires c κs = search needs
+
+add-exp-line : tie.Need-add-exp-line
+add-exp-line c = search needs
+
+exp-line-requires : tie.Need-exp-line-requires
+exp-line-requires c κs = search needs
+
+returns-5 : tie.Need-returns-5
+returns-5 c =
+    let w = c .before .before in
+    let f = w .before .before in
+    rw (words f, sym (w .is-word .ensures) ∙ c .before .if4 .taken) (rw (back (fits (told f))) at (c .exp-line .ensures))
+
+slice-aggregate-is-word-2 : tie.Need-slice-aggregate-is-word-2
+slice-aggregate-is-word-2 c = search needs
+
+is-word-requires-2 : tie.Need-is-word-requires-2
+is-word-requires-2 c κs = search needs
+
+add-log-line : tie.Need-add-log-line
+add-log-line c = search needs
+
+log-line-requires : tie.Need-log-line-requires
+log-line-requires c κs = search needs
+
+returns-6 : tie.Need-returns-6
+returns-6 c =
+    let w = c .before .before in
+    let no = w .before .before in
+    let f = no .before .before .before in
+    rw (words f, sym (no .before .is-word .ensures) ∙ no .if4 .left, sym (w .is-word2 .ensures) ∙ c .before .if5 .taken)
+    (rw (back (fits (told f))) at (c .log-line .ensures))
+
+returns-7 : tie.Need-returns-7
+returns-7 c =
+    let w = c .before in
+    let no = w .before .before in
+    let f = no .before .before .before in
+    rw (words f, sym (no .before .is-word .ensures) ∙ no .if4 .left, sym (w .is-word2 .ensures) ∙ c .if5 .left)
+
+pub read-line-spec : {M : Type 1} → statement M
+read-line-spec =
+    tie.close
+    (tie.spec
+    field-end-requires
+    read-number-requires
+    enum-known-serial
+    enum-told
+    returns
+    returns-2
+    returns-3
+    add-at
+    returns-4
+    field-end-requires-2
+    slice-aggregate-is-word
+    is-word-requires
+    add-exp-line
+    exp-line-requires
+    returns-5
+    slice-aggregate-is-word-2
+    is-word-requires-2
+    add-log-line
+    log-line-requires
+    returns-6
+    returns-7)

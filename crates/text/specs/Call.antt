@@ -1,0 +1,89 @@
+-- From the parts of a line's answer to the call: what bounds its bytes, and its three equations.
+use mathlib.Core.Path.{_≡_, refl}
+use mathlib.Core.Bool.{Bool, true, false, cond}
+use mathlib.Core.List.{List, [], _∷_}
+use Prim.Native.Nat.{ℕ, _≤_, _<_}
+use lib.Dec.{lit<}
+use lib.IntN.{ℤ, pos}
+use lib.ListN.{length}
+use borrow.Author.Tests.{lt-ltb, le-ltb}
+use Rattle.word.specs.Compare.{between}
+use Rattle.point.specs.declared.Refusal.{Refusal}
+use Rattle.point.specs.declared.Refusal.the-variants as why
+use Rattle.point.specs.Refusal.{refusalNumber}
+use Rattle.point.specs.Limits.{inSteps}
+use Rattle.logarithm.specs.Answer.{unless, answerTo, logAnswer}
+use Rattle.logarithm.specs.declared.Answer.{Answer}
+use Rattle.logarithm.specs.declared.Answer.the-variants.{Answered, Refused}
+use Rattle.text.specs.Either.{either}
+use Rattle.text.specs.Decimal.{showNumber, readNumber}
+use Rattle.text.specs.Written.{short-range}
+use Rattle.text.specs.Fields.{fields, sameBytes}
+use Rattle.text.specs.Line.{isSerial, IsSerial, EXP, LOG, Numbers, are, none, numbers, formed, expOf, logOf, kindLine, serialLine, lineOf, readLine}
+use Rattle.text.specs.Answer.{replyBy, refusedReply, replyOf, reply, Replied, refusalOf, countOf, outOf}
+use Rattle.text.specs.declared.Number.{Number}
+use Rattle.text.specs.declared.Number.the-variants as num
+use Rattle.text.specs.declared.Line.{Line}
+use Rattle.text.specs.declared.Line.the-variants as line
+
+-- ---- the count of steps that LOG accepts has at most 2 digits
+abbrev pub IsAnswered : Answer → Type 0
+IsAnswered (Answered f) = Unit {0}
+IsAnswered (Refused r) = ⊥
+
+pub short-steps : (n x y : ℤ) → IsAnswered (logAnswer n x y) → length (showNumber n) ≤ 2
+unfolding logAnswer answerTo inSteps
+short-steps n x y h = short-range 3 1 n (lit< tt) (first (between (pos 3) (pos 40) n) _ _ h)
+  where
+    first : (b : Bool) (r : Refusal) (a : Answer) → IsAnswered (unless b r a) → b ≡ true
+    first true r a h = refl
+    first false r a h = absurd h
+
+-- ---- no refusal's number is 0
+pub refused-reply : (r : Refusal) (serial : ℤ) (kind : List ℕ) (zs : List ℤ) → replyBy (refusalNumber r) serial kind zs ≡ refusedReply serial (refusalNumber r)
+refused-reply why.Steps serial kind zs = refl
+refused-reply why.Exponent serial kind zs = refl
+refused-reply why.Part serial kind zs = refl
+refused-reply why.Zero serial kind zs = refl
+
+-- ---- a line that is read has a serial in its range
+abbrev pub SerialOf : Line → Type 0
+SerialOf line.Malformed = Unit {0}
+SerialOf (line.Exp serial n exponent start) = IsSerial serial
+SerialOf (line.Log serial n point) = IsSerial serial
+
+kind-serial : (serial : ℤ) (fs : List (List ℕ)) → IsSerial serial → SerialOf (kindLine serial fs)
+unfolding kindLine
+kind-serial serial [] h = tt
+kind-serial serial (f ∷ fs) h =
+    either (sameBytes f EXP) (λ e. rw e (exp (numbers 5 fs)))
+    (λ e. rw e (either (sameBytes f LOG) (λ g. rw g (log (numbers 3 fs))) (λ g. rw g tt)))
+  where
+    exp : (r : Numbers) → SerialOf (formed r (expOf serial))
+    exp (are zs) = h
+    exp none = tt
+
+    log : (r : Numbers) → SerialOf (formed r (logOf serial))
+    log (are zs) = h
+    log none = tt
+
+pub line-serial : (l : List ℕ) → SerialOf (readLine l)
+unfolding readLine lineOf
+line-serial l = go (fields l)
+  where
+    number : (r : Number) (fs : List (List ℕ)) → SerialOf (serialLine r fs)
+    number num.Not fs = tt
+    number (num.Is z) fs = either (isSerial z) (λ e. rw e (kind-serial z fs e)) (λ e. rw e tt)
+
+    go : (fs : List (List ℕ)) → SerialOf (lineOf fs)
+    go [] = tt
+    go (f ∷ fs) = number (readNumber f) fs
+
+-- ---- the three equations
+pub short-buffer : (l b : List ℕ) → length b < 128 → (pos 6 ≡ refusalOf l b) × ((_≡_ {A = ℕ} 0 (countOf l b)) × (b ≡ outOf l b))
+short-buffer l b h = rw (lt-ltb _ _ h) (refl, (refl, refl))
+
+pub called : (l : List ℕ) {r : Line} {b b′ : List ℕ} {refusal : ℤ} {written : ℕ} → readLine l ≡ r → 128 ≤ length b →
+    Replied (replyOf r) b b′ refusal written → (refusal ≡ refusalOf l b) × ((written ≡ countOf l b) × (b′ ≡ outOf l b))
+unfolding reply
+called l e h a = rw (le-ltb _ _ h, e) (a .refused, (a .wrote .count, a .wrote .bytes))

@@ -1,0 +1,406 @@
+// Numbers, fields and lines of a sheet: reading, writing, and the answer to a line.
+ghost use mathlib.Core.Path.{_≡_};
+ghost use mathlib.Core.Bool.{cond};
+ghost use Prim.Native.Nat.{_+_, _≤_, _<_};
+ghost use lib.IntN.{natAbs};
+ghost use lib.ListN.{length};
+ghost use lib.Seq.{slice};
+ghost use Rattle.text.specs.Put.{Put, Front};
+ghost use Rattle.text.specs.Decimal.{showNatural, showNumber, readNatural, readNumber};
+ghost use Rattle.text.specs.Fields.{FieldEnd, fieldsAt, sameBytes};
+ghost use Rattle.text.specs.Line.{IsSerial, numbers, are, none, formed, expOf, logOf, readLine};
+ghost use Rattle.exponential.specs.Answer.{expAnswer, expRecord};
+ghost use Rattle.logarithm.specs.Answer.{logAnswer, logRecord};
+ghost use Rattle.text.specs.Answer.{fieldBytes, lineBytes, refusedReply, expReply, logReply, Replied, refusalOf, countOf, outOf};
+use point::Point;
+
+// A size that stands in a field, or none.
+enum Natural {
+    Is(u64),
+    Not,
+}
+
+// A number that stands in a field, or none.
+enum Number {
+    Is(i64),
+    Not,
+}
+
+// A line of a sheet.
+pub enum Line {
+    Exp {
+        serial: i64,
+        n: i64,
+        exponent: Point,
+        start: Point,
+    },
+    Log {
+        serial: i64,
+        n: i64,
+        point: Point,
+    },
+    Malformed,
+}
+
+// What the call of a line gives: the refusal number or 0, and how many bytes it wrote.
+pub struct LineAnswer {
+    pub refusal: i64,
+    pub written: usize,
+}
+
+// ---- writing: each from `at` on, and back comes the place behind it
+
+// The digits of v.
+fn put_natural(v: u64, out: &mut [u8], at: usize) -> usize
+    requires { ⌜ at + length (showNatural v) ≤ length (now out) ⌝ }
+    ensures { λ r. ⌜ Put (now (out .entry)) at (showNatural v) (now (out .exit)) r ⌝ }
+{
+    if v < 10 {
+        out[at] = 48 + v as u8;
+        return at + 1;
+    }
+    let end = put_natural(v / 10, out, at);
+    out[end] = 48 + (v % 10) as u8;
+    end + 1
+}
+
+// z without its sign.
+fn size(z: i64) -> u64
+    ensures { λ r. ⌜ r ≡ natAbs z ⌝ }
+{
+    if z < 0 {
+        (-(z + 1)) as u64 + 1
+    } else {
+        z as u64
+    }
+}
+
+fn put_number(z: i64, out: &mut [u8], at: usize) -> usize
+    requires { ⌜ at + length (showNumber z) ≤ length (now out) ⌝ }
+    ensures { λ r. ⌜ Put (now (out .entry)) at (showNumber z) (now (out .exit)) r ⌝ }
+{
+    let v = size(z);
+    if z < 0 {
+        out[at] = 45;
+        return put_natural(v, out, at + 1);
+    }
+    put_natural(v, out, at)
+}
+
+fn put_word(word: &[u8], out: &mut [u8], at: usize) -> usize
+    requires { ⌜ at + length (now word) ≤ length (now out) ⌝ }
+    ensures { λ r. ⌜ Put (now (out .entry)) at (now (word .entry)) (now (out .exit)) r ⌝ }
+{
+    let mut i: usize = 0;
+    let mut j = at;
+    while i < word.len() {
+        out[j] = word[i];
+        i = i + 1;
+        j = j + 1;
+    }
+    j
+}
+
+// Each number behind a tab.
+fn put_fields(zs: &[i64], out: &mut [u8], at: usize) -> usize
+    requires { ⌜ at + length (fieldBytes (now zs)) ≤ length (now out) ⌝ }
+    ensures { λ r. ⌜ Put (now (out .entry)) at (fieldBytes (now (zs .entry))) (now (out .exit)) r ⌝ }
+{
+    let mut i: usize = 0;
+    let mut j = at;
+    while i < zs.len() {
+        out[j] = 9;
+        j = put_number(zs[i], out, j + 1);
+        i = i + 1;
+    }
+    j
+}
+
+// An answer line, from the front.
+fn put_line(serial: i64, word: &[u8], fields: &[i64], out: &mut [u8]) -> usize
+    requires { ⌜ length (lineBytes serial (now word) (now fields)) ≤ length (now out) ⌝ }
+    ensures { λ r. ⌜ Front (lineBytes serial (now (word .entry)) (now (fields .entry))) (now (out .entry)) (now (out .exit)) r ⌝ }
+{
+    let a = put_number(serial, out, 0);
+    out[a] = 9;
+    let b = put_word(word, out, a + 1);
+    let c = put_fields(fields, out, b);
+    out[c] = 10;
+    c + 1
+}
+
+// ---- reading
+
+// The size whose digits stand from `from` up to `to`.
+fn read_natural(s: &[u8], from: usize, to: usize) -> Natural
+    requires { ⌜ (from ≤ to) × (to ≤ length (now s)) ⌝ }
+    ensures { λ r. ⌜ r ≡ readNatural (slice from to (now (s .entry))) ⌝ }
+{
+    if from == to {
+        return Natural::Not;
+    }
+    if s[from] == 48 {
+        if from + 1 < to {
+            return Natural::Not;
+        }
+        return Natural::Is(0);
+    }
+    let mut acc: u64 = 0;
+    let mut i = from;
+    while i < to {
+        let d = s[i];
+        if d < 48 {
+            return Natural::Not;
+        }
+        if 57 < d {
+            return Natural::Not;
+        }
+        if 922337203685477580 < acc {
+            return Natural::Not;
+        }
+        acc = acc * 10 + (d - 48) as u64;
+        i = i + 1;
+    }
+    if acc <= 9223372036854775808 {
+        Natural::Is(acc)
+    } else {
+        Natural::Not
+    }
+}
+
+// The number that stands from `from` up to `to`.
+fn read_number(s: &[u8], from: usize, to: usize) -> Number
+    requires { ⌜ (from ≤ to) × (to ≤ length (now s)) ⌝ }
+    ensures { λ r. ⌜ r ≡ readNumber (slice from to (now (s .entry))) ⌝ }
+{
+    if from == to {
+        return Number::Not;
+    }
+    if s[from] == 45 {
+        let Natural::Is(m) = read_natural(s, from + 1, to) else {
+            return Number::Not;
+        };
+        if m == 0 {
+            return Number::Not;
+        }
+        return Number::Is(-((m - 1) as i64) - 1);
+    }
+    let Natural::Is(m) = read_natural(s, from, to) else {
+        return Number::Not;
+    };
+    if m <= 9223372036854775807 {
+        return Number::Is(m as i64);
+    }
+    Number::Not
+}
+
+// Where the field ends that begins at `from`.
+fn field_end(s: &[u8], from: usize) -> usize
+    requires { ⌜ from ≤ length (now s) ⌝ }
+    ensures { λ r. ⌜ FieldEnd (now (s .entry)) from r ⌝ }
+{
+    let mut i = from;
+    while i < s.len() {
+        if s[i] == 9 {
+            return i;
+        }
+        i = i + 1;
+    }
+    i
+}
+
+// Whether the bytes from `from` up to `to` are those of `word`.
+fn is_word(s: &[u8], from: usize, to: usize, word: &[u8]) -> bool
+    requires { ⌜ (from ≤ to) × (to ≤ length (now s)) ⌝ }
+    ensures { λ r. ⌜ r ≡ sameBytes (slice from to (now (s .entry))) (now (word .entry)) ⌝ }
+{
+    if to - from != word.len() {
+        return false;
+    }
+    let mut i: usize = 0;
+    let mut j = from;
+    while i < word.len() {
+        if s[j] != word[i] {
+            return false;
+        }
+        i = i + 1;
+        j = j + 1;
+    }
+    true
+}
+
+// Whether the fields from `at` on are as many numbers as `into` holds, and no more; then those stand in it.
+fn read_numbers(s: &[u8], at: usize, into: &mut [i64]) -> bool
+    ensures { λ r. ⌜ numbers (length (now (into .entry))) (fieldsAt (now (s .entry)) at) ≡ cond r (are (now (into .exit))) none ⌝ }
+{
+    let mut next = at;
+    let mut i: usize = 0;
+    while i < into.len() {
+        if s.len() < next {
+            return false;
+        }
+        let end = field_end(s, next);
+        let Number::Is(z) = read_number(s, next, end) else {
+            return false;
+        };
+        into[i] = z;
+        next = end + 1;
+        i = i + 1;
+    }
+    if s.len() < next {
+        return true;
+    }
+    false
+}
+
+// An EXP line's fields from N on.
+fn exp_line(s: &[u8], serial: i64, at: usize) -> Line
+    ensures { λ r. ⌜ r ≡ formed (numbers 5 (fieldsAt (now (s .entry)) at)) (expOf serial) ⌝ }
+{
+    let mut v = [0i64; 5];
+    if read_numbers(s, at, &mut v) {
+        let n = v[0];
+        let ex = v[1];
+        let ey = v[2];
+        let sx = v[3];
+        let sy = v[4];
+        return Line::Exp {
+            serial,
+            n,
+            exponent: Point { x: ex, y: ey },
+            start: Point { x: sx, y: sy },
+        };
+    }
+    Line::Malformed
+}
+
+// A LOG line's fields from N on.
+fn log_line(s: &[u8], serial: i64, at: usize) -> Line
+    ensures { λ r. ⌜ r ≡ formed (numbers 3 (fieldsAt (now (s .entry)) at)) (logOf serial) ⌝ }
+{
+    let mut v = [0i64; 3];
+    if read_numbers(s, at, &mut v) {
+        let n = v[0];
+        let x = v[1];
+        let y = v[2];
+        return Line::Log {
+            serial,
+            n,
+            point: Point { x, y },
+        };
+    }
+    Line::Malformed
+}
+
+// The line that bytes are, which come without their newline.
+pub fn read_line(s: &[u8]) -> Line
+    ensures { λ r. ⌜ r ≡ readLine (now (s .entry)) ⌝ }
+{
+    let e = field_end(s, 0);
+    let Number::Is(serial) = read_number(s, 0, e) else {
+        return Line::Malformed;
+    };
+    if serial < 1 {
+        return Line::Malformed;
+    }
+    if 9999999 < serial {
+        return Line::Malformed;
+    }
+    let at = e + 1;
+    if s.len() < at {
+        return Line::Malformed;
+    }
+    let f = field_end(s, at);
+    if is_word(s, at, f, b"EXP") {
+        return exp_line(s, serial, f + 1);
+    }
+    if is_word(s, at, f, b"LOG") {
+        return log_line(s, serial, f + 1);
+    }
+    Line::Malformed
+}
+
+// ---- answering: each into a buffer with room, from its front
+
+// A line that is turned away.
+fn refused(serial: i64, refusal: i64, out: &mut [u8]) -> LineAnswer
+    requires { ⌜ 128 ≤ length (now out) ⌝ }
+    ensures { λ r. ⌜ Replied (refusedReply serial refusal) (now (out .entry)) (now (out .exit)) (r .refusal) (r .written) ⌝ }
+{
+    let fields = [refusal];
+    let written = put_line(serial, b"REF", &fields, out);
+    LineAnswer { refusal, written }
+}
+
+fn answer_exp(serial: i64, n: i64, exponent: Point, start: Point, out: &mut [u8]) -> LineAnswer
+    requires { ⌜ (128 ≤ length (now out)) × IsSerial serial ⌝ }
+    ensures { λ r. ⌜ Replied (expReply serial n (expRecord (expAnswer n (exponent .x) (exponent .y) (start .x) (start .y)))) (now (out .entry)) (now (out .exit)) (r .refusal) (r .written) ⌝ }
+{
+    match exponential::exp(n, exponent, start) {
+        exponential::Answer::Answered(f) => {
+            let value = f.value;
+            let x = value.x;
+            let y = value.y;
+            let error_bound = f.error_bound;
+            let fields = [n, x, y, error_bound];
+            let written = put_line(serial, b"EXP", &fields, out);
+            LineAnswer {
+                refusal: 0,
+                written,
+            }
+        }
+        exponential::Answer::Refused(r) => {
+            let number = r.number();
+            refused(serial, number, out)
+        }
+    }
+}
+
+fn answer_log(serial: i64, n: i64, point: Point, out: &mut [u8]) -> LineAnswer
+    requires { ⌜ (128 ≤ length (now out)) × IsSerial serial ⌝ }
+    ensures { λ r. ⌜ Replied (logReply serial n (logRecord (logAnswer n (point .x) (point .y)))) (now (out .entry)) (now (out .exit)) (r .refusal) (r .written) ⌝ }
+{
+    match logarithm::log(n, point) {
+        logarithm::Answer::Answered(f) => {
+            let x = f.x;
+            let y = f.y;
+            let binary_exponent = f.binary_exponent;
+            let quadrant = f.quadrant;
+            let error_bound = f.error_bound;
+            let fields = [n, x, y, binary_exponent, quadrant, error_bound];
+            let written = put_line(serial, b"LOG", &fields, out);
+            LineAnswer {
+                refusal: 0,
+                written,
+            }
+        }
+        logarithm::Answer::Refused(r) => {
+            let number = r.number();
+            refused(serial, number, out)
+        }
+    }
+}
+
+// THE CALL: the answer to a line, which comes without its newline.
+pub fn answer_line(line: &[u8], out: &mut [u8]) -> LineAnswer
+    ensures refusal { λ r. ⌜ r .refusal ≡ refusalOf (now (line .entry)) (now (out .entry)) ⌝ }
+    ensures count { λ r. ⌜ r .written ≡ countOf (now (line .entry)) (now (out .entry)) ⌝ }
+    ensures bytes { λ r. ⌜ now (out .exit) ≡ outOf (now (line .entry)) (now (out .entry)) ⌝ }
+{
+    if out.len() < 128 {
+        return LineAnswer {
+            refusal: 6,
+            written: 0,
+        };
+    }
+    match read_line(line) {
+        Line::Malformed => refused(0, 5, out),
+        Line::Exp {
+            serial,
+            n,
+            exponent,
+            start,
+        } => answer_exp(serial, n, exponent, start, out),
+        Line::Log { serial, n, point } => answer_log(serial, n, point, out),
+    }
+}
