@@ -1,0 +1,78 @@
+/* A C client of include/bkm.h: calls as the sorter's controller makes them, byte by byte.
+ *
+ *     gcc -O2 -Wall -Iinclude tests/client.c target/staticlib/libcontroller.a -o client && ./client
+ */
+#include "bkm.h"
+
+#include <inttypes.h>
+#include <stdio.h>
+#include <string.h>
+
+static int passed, failed;
+
+static void check(const char *what, int good)
+{
+    if (good) {
+        passed++;
+    } else {
+        failed++;
+        printf("failed: %s\n", what);
+    }
+}
+
+/* Number i of a record: eight bytes, the low one first. */
+static int64_t number(const uint8_t *record, int i)
+{
+    uint64_t bits = 0;
+    for (int j = 7; j >= 0; j--)
+        bits = bits << 8 | record[8 * i + j];
+    int64_t value;
+    memcpy(&value, &bits, sizeof value);
+    return value;
+}
+
+static int holds(const uint8_t *out, int64_t refusal, int64_t x, int64_t y, int64_t k, int64_t q, int64_t bound)
+{
+    const int64_t wanted[6] = {refusal, x, y, k, q, bound};
+    for (int i = 0; i < 6; i++)
+        if (number(out, i) != wanted[i])
+            return 0;
+    return 1;
+}
+
+static int all(const uint8_t *bytes, size_t length, uint8_t value)
+{
+    for (size_t i = 0; i < length; i++)
+        if (bytes[i] != value)
+            return 0;
+    return 1;
+}
+
+int main(void)
+{
+    const int64_t one = INT64_C(1) << 48, most = INT64_C(1) << 58;
+    uint8_t out[64];
+
+    memset(out, 0xa5, sizeof out);
+    check("EXP of nought hands back 0", bkm_exp(40, 0, 0, one, 0, out, sizeof out) == 0);
+    check("and the start, with the column 2168", holds(out, 0, one, 0, 0, 0, 2168));
+    check("bytes past the 48 keep their values", all(out + 48, 16, 0xa5));
+
+    check("N = 0 is refused before the exponent", bkm_exp(0, INT64_MAX, 0, one, 0, out, 48) == 1 && holds(out, 1, 0, 0, 0, 0, 0));
+    check("an exponent past 55/64", bkm_exp(40, INT64_C(241892558110721), 0, one, 0, out, 48) == 2 && holds(out, 2, 0, 0, 0, 0, 0));
+    check("a start of -2^63", bkm_exp(40, 0, 0, INT64_MIN, 0, out, 48) == 3 && holds(out, 3, 0, 0, 0, 0, 0));
+    check("a start of 2^58 is taken", bkm_exp(1, 0, 0, most, -most, out, 48) == 0);
+
+    check("LOG of one: k is 1 and q is 0", bkm_log(40, one, 0, out, 48) == 0 && number(out, 3) == 1 && number(out, 4) == 0);
+    check("LOG of (5, -5): q is 3", bkm_log(40, 5, -5, out, 48) == 0 && number(out, 4) == 3);
+    check("LOG of zero", bkm_log(40, 0, 0, out, 48) == 4 && holds(out, 4, 0, 0, 0, 0, 0));
+    check("LOG with N = 2", bkm_log(2, one, 0, out, 48) == 1 && holds(out, 1, 0, 0, 0, 0, 0));
+
+    memset(out, 0x5a, sizeof out);
+    check("47 bytes are refused with 6", bkm_exp(0, 0, 0, 0, 0, out, 47) == 6 && bkm_log(0, 0, 0, out, 47) == 6);
+    check("and so is no buffer at all", bkm_exp(40, 0, 0, one, 0, out, 0) == 6);
+    check("and nothing is written", all(out, sizeof out, 0x5a));
+
+    printf("%d passed, %d failed\n", passed, failed);
+    return failed != 0;
+}
