@@ -19,7 +19,8 @@ abbrev pub written : List ℕ → List ℤ → List ℕ
 written out numbers = cond (ltb (length out) 48) out (encode numbers ++ drop 48 out)
 
 -- "two's complement, low byte first": 258 and −2
-low-byte-first : encode (pos 258 ∷ negsuc 1 ∷ []) ≡ 2 ∷ 1 ∷ 0 ∷ 0 ∷ 0 ∷ 0 ∷ 0 ∷ 0 ∷ 254 ∷ 255 ∷ 255 ∷ 255 ∷ 255 ∷ 255 ∷ 255 ∷ 255 ∷ []
+low-byte-first : encode (pos 258 ∷ negsuc 1 ∷ [])
+    ≡ 2 ∷ 1 ∷ 0 ∷ 0 ∷ 0 ∷ 0 ∷ 0 ∷ 0 ∷ 254 ∷ 255 ∷ 255 ∷ 255 ∷ 255 ∷ 255 ∷ 255 ∷ 255 ∷ []
 unfolding encode bytes
 low-byte-first = refl
 

@@ -40,7 +40,8 @@ short-steps n x y h = short-range 3 1 n (lit< tt) (first (between (pos 3) (pos 4
     first false r a h = absurd h
 
 -- ---- no refusal's number is 0
-pub refused-reply : (r : Refusal) (serial : ℤ) (kind : List ℕ) (zs : List ℤ) → replyBy (refusalNumber r) serial kind zs ≡ refusedReply serial (refusalNumber r)
+pub refused-reply : (r : Refusal) (serial : ℤ) (kind : List ℕ) (zs : List ℤ) →
+    replyBy (refusalNumber r) serial kind zs ≡ refusedReply serial (refusalNumber r)
 refused-reply why.Steps serial kind zs = refl
 refused-reply why.Exponent serial kind zs = refl
 refused-reply why.Part serial kind zs = refl

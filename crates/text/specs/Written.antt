@@ -63,10 +63,10 @@ digits-ind P one more v = below (suc v) v (omega arith)
         (λ w. rw (digits-more v w) (more v (showNatural (v / 10)) w (below f (v / 10) (omega arith))))
         (small-or v)
 
--- ---- how many there are
 div-small : (k v : ℕ) → v < 10 ^ suc k → v / 10 < 10 ^ k
 div-small k v h = div-lt-iff-lt-mul (lit< tt) .1 (rw pow-suc at h)
 
+-- ---- how many there are
 pub short : (k v : ℕ) → v < 10 ^ suc k → length (showNatural v) ≤ suc k
 short k v h = digits-ind P one more v k h
   where

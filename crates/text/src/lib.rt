@@ -9,9 +9,7 @@ ghost use Rattle.text.specs.Put.{Put, Front};
 ghost use Rattle.text.specs.Decimal.{showNatural, showNumber, readNatural, readNumber};
 ghost use Rattle.text.specs.Fields.{FieldEnd, fieldsAt, sameBytes};
 ghost use Rattle.text.specs.Line.{IsSerial, numbers, are, none, formed, expOf, logOf, readLine};
-ghost use Rattle.exponential.specs.Answer.{expAnswer, expRecord};
-ghost use Rattle.logarithm.specs.Answer.{logAnswer, logRecord};
-ghost use Rattle.text.specs.Answer.{fieldBytes, lineBytes, refusedReply, expReply, logReply, Replied, refusalOf, countOf, outOf};
+ghost use Rattle.text.specs.Answer.{fieldBytes, lineBytes, refusedReply, replyOf, Replied, refusalOf, countOf, outOf};
 use point::Point;
 
 // A size that stands in a field, or none.
@@ -334,7 +332,7 @@ fn refused(serial: i64, refusal: i64, out: &mut [u8]) -> LineAnswer
 
 fn answer_exp(serial: i64, n: i64, exponent: Point, start: Point, out: &mut [u8]) -> LineAnswer
     requires { ⌜ (128 ≤ length (now out)) × IsSerial serial ⌝ }
-    ensures { λ r. ⌜ Replied (expReply serial n (expRecord (expAnswer n (exponent .x) (exponent .y) (start .x) (start .y)))) (now (out .entry)) (now (out .exit)) (r .refusal) (r .written) ⌝ }
+    ensures { λ r. ⌜ Replied (replyOf (Line.Exp serial n exponent start)) (now (out .entry)) (now (out .exit)) (r .refusal) (r .written) ⌝ }
 {
     match exponential::exp(n, exponent, start) {
         exponential::Answer::Answered(f) => {
@@ -358,7 +356,7 @@ fn answer_exp(serial: i64, n: i64, exponent: Point, start: Point, out: &mut [u8]
 
 fn answer_log(serial: i64, n: i64, point: Point, out: &mut [u8]) -> LineAnswer
     requires { ⌜ (128 ≤ length (now out)) × IsSerial serial ⌝ }
-    ensures { λ r. ⌜ Replied (logReply serial n (logRecord (logAnswer n (point .x) (point .y)))) (now (out .entry)) (now (out .exit)) (r .refusal) (r .written) ⌝ }
+    ensures { λ r. ⌜ Replied (replyOf (Line.Log serial n point)) (now (out .entry)) (now (out .exit)) (r .refusal) (r .written) ⌝ }
 {
     match logarithm::log(n, point) {
         logarithm::Answer::Answered(f) => {

@@ -1,8 +1,11 @@
 -- `text::answer_log` meets its contract: LOG's figures as a line, or its refusal.
 use mathlib.Core.Path.{_≡_, refl, sym, _∙_}
-use mathlib.Core.List.{[], _∷_}
+use mathlib.Core.List.{List, [], _∷_}
+use Prim.Native.Nat.{_≤_}
 use native.Mathlib.Omega.{arith}
 use lib.Dec.{lit<}
+use lib.IntN.{ℤ}
+use lib.ListN.{length}
 use mir.Syntax.{w64}
 use mir.Val.{SFits}
 use Rattle.word.specs.Fits.{back, sfits-mag}
@@ -11,6 +14,7 @@ use Rattle.logarithm.specs.declared.Figures.{Figures}
 use Rattle.logarithm.specs.declared.Answer.the-variants.{Answered}
 use Rattle.text.specs.Line.{LOG}
 use Rattle.text.specs.Written.{short-range}
+use Rattle.text.specs.Answer.{lineBytes, replyOf}
 use Rattle.text.specs.Layout.{line-room}
 use Rattle.text.specs.Call.{refused-reply, short-steps}
 use borrow.Author.Needs.{needs}
@@ -50,6 +54,17 @@ module _ (c : tie.After-struct-told5) where
   fit-bound : SFits w64 (figures .«error_bound»)
   fit-bound = sfits-mag _ (c .struct-told5 .given .1 .1 .1 .1 .0 .1)
 
+  -- so the line takes at most 7 + 3 + 2 + 5·21 + 3 bytes
+  abbrev others : List ℤ
+  others = figures .x ∷ figures .y ∷ figures .«binary_exponent» ∷ figures .quadrant ∷ figures .«error_bound» ∷ []
+
+  room : length (lineBytes (start .args .serial) LOG (start .args .n ∷ others)) ≤ 120
+  room =
+      let a = start .args in
+      line-room (a .serial) LOG (a .n) others (short-range 1 6 (a .serial) (lit< tt) (start .pre .1))
+      (short-steps (a .n) (a .point .x) (a .point .y) (rw answered tt))
+      (fit-x, (fit-y, (fit-k, (fit-q, (fit-bound, tt)))))
+
 log-requires : tie.Need-log-requires
 log-requires c κs = search needs
 
@@ -66,7 +81,6 @@ put-line-requires : tie.Need-put-line-requires
 put-line-requires c κs =
     let t = c .before .before .before in
     let s = start t in
-    let f = figures t in
     rw (
       back (s .fits .serial),
       back (s .fits .n),
@@ -76,7 +90,7 @@ put-line-requires c κs =
       back (fit-q t),
       back (fit-bound t),
     )
-    (omega (arith, s .pre .0, line-room (s .args .serial) LOG (s .args .n) (f .x ∷ f .y ∷ f .«binary_exponent» ∷ f .quadrant ∷ f .«error_bound» ∷ []) (short-range 1 6 (s .args .serial) (lit< tt) (s .pre .1)) (short-steps (s .args .n) (s .args .point .x) (s .args .point .y) (rw (answered t) tt)) (fit-x t, (fit-y t, (fit-k t, (fit-q t, (fit-bound t, tt)))))))
+    (omega (arith, s .pre .0, room t))
 
 enum-known-r : tie.Need-enum-known-r
 enum-known-r c = search needs
@@ -91,7 +105,7 @@ same-length : tie.Need-same-length
 same-length c = search needs
 
 returns : tie.Need-returns
-unfolding logRecord
+unfolding replyOf logRecord
 returns c =
     let p = c .before .before in
     let t = p .before .before .before .before in
@@ -111,7 +125,7 @@ same-length-2 : tie.Need-same-length-2
 same-length-2 c = search needs
 
 returns-2 : tie.Need-returns-2
-unfolding logRecord
+unfolding replyOf logRecord
 returns-2 c =
     let p = c .before .before in
     let m = p .before .before in

@@ -8,7 +8,8 @@ use Rattle.text.proofs.is_word.Statement.{statement}
 use Rattle.text.proofs.is_word.Tie as tie
 
 abbrev Inv-loop : tie.InvT-loop
-Inv-loop s from to word i₀ j₀ i j = (i ≤ length word) × (j + length word ≡ to + i) × (sameBytes (slice j to s) (drop i word) ≡ sameBytes (slice from to s) word)
+Inv-loop s from to word i₀ j₀ i j =
+    (i ≤ length word) × (j + length word ≡ to + i) × (sameBytes (slice j to s) (drop i word) ≡ sameBytes (slice from to s) word)
 
 abbrev μ-loop : tie.MeasureT-loop
 μ-loop s from to word i₀ j₀ i j = length word - i
@@ -35,7 +36,8 @@ returns-2 : tie.Need-returns-2 Inv-loop μ-loop
 returns-2 c =
     let l = c .before .before .before .before in
     let a = l .before .before in
-    sym (same-less (a .args .s .now) (a .args .word .now) (l .loop .i) (l .loop .j) (a .args .to) (omega arith) (a .pre .1) (c .before .before .before .loop-test .taken) (c .if2 .taken))
+    let more = c .before .before .before .loop-test .taken in
+    sym (same-less (a .args .s .now) (a .args .word .now) (l .loop .i) (l .loop .j) (a .args .to) (omega arith) (a .pre .1) more (c .if2 .taken))
     ∙ l .loop .inv .2
 
 add-i : tie.Need-add-i Inv-loop μ-loop
@@ -51,7 +53,9 @@ loop-again : tie.Need-loop-again Inv-loop μ-loop
 loop-again c =
     let l = c .before .before .before .before in
     let a = l .before .before in
-    (omega arith, omega arith, sym (same-more (a .args .s .now) (a .args .word .now) (l .loop .i) (l .loop .j) (a .args .to) (omega arith) (a .pre .1) (c .before .before .before .loop-test .taken) (c .if2 .left)) ∙ l .loop .inv .2)
+    let more = c .before .before .before .loop-test .taken in
+    let same = same-more (a .args .s .now) (a .args .word .now) (l .loop .i) (l .loop .j) (a .args .to) (omega arith) (a .pre .1) more (c .if2 .left) in
+    (omega arith, omega arith, sym same ∙ l .loop .inv .2)
 
 returns-3 : tie.Need-returns-3 Inv-loop μ-loop
 returns-3 c =

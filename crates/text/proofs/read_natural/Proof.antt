@@ -66,9 +66,9 @@ returns-5 c = rw (le-ltb _ _ (c .before .if4 .left), lt-ltb _ _ (c .if5 .taken))
 
 returns-6 : tie.Need-returns-6 Inv-loop μ-loop
 returns-6 c =
-    let l = c .before .before .before .before .before in
-    rw (le-ltb _ _ (c .before .before .if4 .left), le-ltb _ _ (c .before .if5 .left), big (2 ^ 63) (l .loop .acc * 10 + (getD (l .before .before .before .before .args .s .now) (l .loop .i) 0 - 48)) _ (omega arith)) at
-    (turn (c .before .before .before))
+    let t = c .before .before .before in
+    let more = head t .loop .acc * 10 + (getD (bytes t) (head t .loop .i) 0 - 48) in
+    rw (le-ltb _ _ (c .before .before .if4 .left), le-ltb _ _ (c .before .if5 .left), big (2 ^ 63) more _ (omega arith)) at (turn t)
 
 mul-acc : tie.Need-mul-acc Inv-loop μ-loop
 mul-acc c = omega arith

@@ -78,7 +78,11 @@ loop-again c =
     let l = f .before .before .before in
     let s = l .before .before in
     let z = k .z .given .0 .0 in
-    (omega arith, simp length-set (l .loop .inv .1), rw (back (sfits-mag z (c .known-told .given .0 .1))) (sym (number-stored (s .args .s .now) (l .loop .into) _ (l .loop .i) (l .loop .next) (f .field-end .result) z (omega arith) (l .loop .inv .1) (f .before .if1 .left) (f .field-end .ensures) (sym (r .read-number .ensures) ∙ k .z .given .1)) ∙ l .loop .inv .2))
+    let read = sym (r .read-number .ensures) ∙ k .z .given .1 in
+    let field = f .field-end .ensures in
+    let stored = number-stored (s .args .s .now) (l .loop .into) _ (l .loop .i) (l .loop .next) _ z (omega arith) (l .loop .inv .1)
+    (f .before .if1 .left) field read in
+    (omega arith, simp length-set (l .loop .inv .1), rw (back (sfits-mag z (c .known-told .given .0 .1))) (sym stored ∙ l .loop .inv .2))
 
 same-length-3 : tie.Need-same-length-3 Inv-loop μ-loop
 same-length-3 c = search needs

@@ -1,0 +1,36 @@
+-- `stream::finish` meets its contract.
+use mathlib.Core.Path.{_≡_, refl, _∙_}
+use native.Mathlib.Omega.{arith}
+use borrow.Author.Tests.{lt-ltb, le-ltb}
+use lib.ListN.{length}
+use Rattle.stream.specs.State.{last-none, last-some}
+use borrow.Author.Needs.{needs}
+use Rattle.stream.proofs.finish.Statement.{statement}
+use Rattle.stream.proofs.finish.Tie as tie
+
+returns : tie.Need-returns
+returns c = rw (lt-ltb _ _ (c .if1 .taken)) (refl, refl)
+
+returns-2 : tie.Need-returns-2
+returns-2 c =
+    let h = c .before .before .before .before .args .h in
+    rw (le-ltb _ _ (c .before .before .if1 .left), last-none (h .bytes) (h .len) (c .if2 .taken)) (refl, refl)
+
+answer-held-requires : tie.Need-answer-held-requires
+answer-held-requires c κs = search needs
+
+same-length : tie.Need-same-length
+same-length c = search needs
+
+returns-3 : tie.Need-returns-3
+returns-3 c =
+    let a = c .before .before in
+    let e = a .before .before in
+    let s = e .before .before .before .before in
+    let h = s .args .h in
+    let n : length (h .bytes) ≡ 117 = search needs in
+    let f = a .answer-held .ensures in
+    rw (le-ltb _ _ (e .before .before .if1 .left), last-some (h .bytes) (h .len) (omega arith) (e .if2 .left)) (f .count, f .bytes ∙ rw (f .count))
+
+pub finish-spec : {M : Type 1} → statement M
+finish-spec = tie.close (tie.spec returns returns-2 answer-held-requires same-length returns-3)
