@@ -1,0 +1,102 @@
+//! A barley kernel's outline turned by EXP, and the logarithms of its points: there a turn is
+//! a shift.
+
+use crate::calls;
+use crate::svg::{Axis, Page, Panel};
+use reference::answer::Figures;
+use reference::exponential::{rectangle, Input as Exp};
+use reference::logarithm::Input as Log;
+use reference::width::WIDTH_48;
+use std::f64::consts::{FRAC_PI_2, LN_2, TAU};
+
+const POINTS: usize = 360;
+/// The last turn is the largest that EXP takes, 47/64.
+const TURNS: i64 = 4;
+const N: i64 = 40;
+
+/// A made-up kernel: a superellipse, slimmer towards its tip, with the crease as a dent below.
+/// Parts are at most one.
+fn outline() -> Vec<(i64, i64)> {
+    let units = |part: f64| (part * WIDTH_48.one() as f64).round() as i64;
+    (0..=POINTS)
+        .map(|i| {
+            let (sin, cos) = (i as f64 / POINTS as f64 * TAU).sin_cos();
+            let size = |part: f64, half_axis: f64| (part / half_axis).abs().powf(2.3);
+            let radius = (size(cos, 0.95) + size(sin, 0.42)).powf(-1.0 / 2.3);
+            let (x, y) = (radius * cos, radius * sin);
+            let crease = if y < 0.0 { 0.13 * (-(x / 0.13).powi(2)).exp() } else { 0.0 };
+            (units(x), units(y * (1.0 - 0.25 * x) + crease))
+        })
+        .collect()
+}
+
+/// The outline times exp(i·angle), angle in units.
+fn turned(outline: &[(i64, i64)], angle: i64) -> Vec<Figures> {
+    let exp = |&(sx, sy)| calls::exp(Exp { n: N, ex: 0, ey: angle, sx, sy });
+    outline.iter().map(|point| exp(point).expect("a start that EXP takes")).collect()
+}
+
+fn ones(units: i64) -> f64 {
+    units as f64 / WIDTH_48.one() as f64
+}
+
+/// The angle in degrees and the logarithm of the length.
+fn logarithm(point: &Figures) -> (f64, f64) {
+    let log = calls::log(Log { n: N, x: point.x, y: point.y }).expect("a point that LOG takes");
+    let angle = ones(log.y) + log.quadrant as f64 * FRAC_PI_2;
+    (angle.to_degrees(), ones(log.x) + log.binary_exponent as f64 * LN_2)
+}
+
+pub fn picture() -> String {
+    let mut page = Page::new(900.0, 460.0);
+    let part = |label: &str| Axis {
+        low: -1.05,
+        high: 1.05,
+        marks: vec![-1.0, -0.5, 0.0, 0.5, 1.0],
+        label: label.to_string(),
+    };
+    let plane = Panel {
+        left: 78.0,
+        top: 45.0,
+        width: 320.0,
+        height: 320.0,
+        x: part("x (one is 2^48 units)"),
+        y: part("y (one is 2^48 units)"),
+    };
+    plane.draw(&mut page, "An outline turned by EXP");
+    let logarithms = Panel {
+        left: 490.0,
+        top: 45.0,
+        width: 385.0,
+        height: 320.0,
+        x: Axis {
+            low: -45.0,
+            high: 315.0,
+            marks: vec![0.0, 90.0, 180.0, 270.0],
+            label: "angle (degrees)".to_string(),
+        },
+        y: Axis {
+            low: -1.4,
+            high: 0.2,
+            marks: vec![-1.2, -0.8, -0.4, 0.0],
+            label: "natural logarithm of the length".to_string(),
+        },
+    };
+    logarithms.draw(&mut page, "Its points by LOG: a turn is a shift");
+    let outline = outline();
+    let [_, (_, largest)] = rectangle(WIDTH_48);
+    let mut legend = Vec::new();
+    for turn in 0..TURNS {
+        let angle = turn * largest as i64 / (TURNS - 1);
+        let class = format!("line c{turn}");
+        let points = turned(&outline, angle);
+        let parts: Vec<_> = points.iter().map(|p| (ones(p.x), ones(p.y))).collect();
+        plane.line(&mut page, &class, &parts, 99.0);
+        // A point that turns past 315 degrees comes back at -45.
+        let logs: Vec<_> = points.iter().map(logarithm).collect();
+        logarithms.line(&mut page, &class, &logs, 180.0);
+        legend.push((class, format!("turned by {:.2}°", ones(angle).to_degrees())));
+    }
+    page.legend(435.0, &legend);
+    page.finish("A kernel's outline turned by EXP, and the logarithms of its points by LOG")
+}

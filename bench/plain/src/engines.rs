@@ -1,0 +1,143 @@
+//! EXP and LOG, and the record of 48 bytes that the C calls fill.
+
+use crate::tables::{SEATS, SEAT_LOGS, STEPS};
+
+#[derive(Clone, Copy, PartialEq, Eq, Debug)]
+pub enum Refusal {
+    Steps = 1,
+    Exponent = 2,
+    Part = 3,
+    ZeroPoint = 4,
+    Line = 5,
+    Buffer = 6,
+}
+
+#[derive(Clone, Copy, PartialEq, Eq, Debug)]
+pub struct Figures {
+    pub x: i64,
+    pub y: i64,
+    pub k: i64,
+    pub q: i64,
+    pub column: i64,
+}
+
+const ONE: i64 = 1 << 48;
+const MAX_PART: i64 = 1 << 58;
+
+fn step(x: i64, y: i64, dx: i64, dy: i64, n: i64) -> (i64, i64) {
+    (x + ((dx * x - dy * y) >> n), y + ((dx * y + dy * x) >> n))
+}
+
+type Entries = [[(i64, i64); 3]; 3];
+
+/// The steps from `first` to `last`, each with its entries.
+fn steps(first: i64, last: i64) -> impl Iterator<Item = (i64, &'static Entries)> {
+    (first..).zip(&STEPS[first as usize - 1..last as usize])
+}
+
+fn entry(entries: &Entries, dx: i64, dy: i64) -> (i64, i64) {
+    entries[(dx + 1) as usize][(dy + 1) as usize]
+}
+
+fn part_is_refused(part: i64) -> bool {
+    !(-MAX_PART..=MAX_PART).contains(&part)
+}
+
+/// factor·M/2^n rounded up.
+fn share(factor: i64, x: i64, y: i64, n: i64) -> i64 {
+    let larger = x.abs().max(y.abs());
+    (factor * larger + (1 << n) - 1) >> n
+}
+
+pub fn exp(n: i64, ex: i64, ey: i64, sx: i64, sy: i64) -> Result<Figures, Refusal> {
+    if !(1..=40).contains(&n) {
+        return Err(Refusal::Steps);
+    }
+    if !(-53 * ONE / 64..=55 * ONE / 64).contains(&ex)
+        || !(-47 * ONE / 64..=47 * ONE / 64).contains(&ey)
+    {
+        return Err(Refusal::Exponent);
+    }
+    if part_is_refused(sx) || part_is_refused(sy) {
+        return Err(Refusal::Part);
+    }
+    let digit = |e: i64, low: i64, high: i64| i64::from(e >= high) - i64::from(e < low);
+    let (mut ex, mut ey, mut x, mut y) = (ex, ey, sx, sy);
+    for (i, entries) in steps(1, n) {
+        let dx = digit(ex, (-ONE / 2) >> i, (ONE / 8 * 3) >> i);
+        let dy = digit(ey, (-ONE / 4 * 3) >> i, (ONE / 16 * 13) >> i);
+        let (re, im) = entry(entries, dx, dy);
+        (x, y) = step(x, y, dx, dy, i);
+        ex -= re;
+        ey -= im;
+    }
+    Ok(Figures { x, y, k: 0, q: 0, column: share(8, sx, sy, n) + 3 * n })
+}
+
+pub fn log(n: i64, px: i64, py: i64) -> Result<Figures, Refusal> {
+    if !(3..=40).contains(&n) {
+        return Err(Refusal::Steps);
+    }
+    if part_is_refused(px) || part_is_refused(py) {
+        return Err(Refusal::Part);
+    }
+    if (px, py) == (0, 0) {
+        return Err(Refusal::ZeroPoint);
+    }
+    // The point is i^q·(wx + i·wy) with -wx < wy <= wx.
+    let (q, wx, wy) = if -px < py && py <= px {
+        (0, px, py)
+    } else if -py < -px && -px <= py {
+        (1, py, -px)
+    } else if px < -py && -py <= -px {
+        (2, -px, -py)
+    } else {
+        (3, -py, px)
+    };
+    let k = 16 - i64::from(wx.leading_zeros());
+    let scale = |part: i64| if k <= 0 { part << -k } else { part >> k };
+    let (wx, wy) = (scale(wx), scale(wy));
+    // Cells have side 1/16; X = 17 is the first, from 8/16 on, and Y = -31 from -16/16 on.
+    let (across, up) = ((wx >> 44) as usize - 8, ((wy >> 44) + 16) as usize);
+    let (a, b) = SEATS[across][up];
+    let (mut x, mut y) = ((a * wx - b * wy) >> 6, (a * wy + b * wx) >> 6);
+    let (re, im) = SEAT_LOGS[across][up];
+    let (mut answer_x, mut answer_y) = (-re, -im);
+    for (i, entries) in steps(3, n) {
+        let half = (ONE / 2) >> i;
+        let digit = |u: i64| i64::from(u <= -half) - i64::from(u >= half);
+        let (dx, dy) = (digit(x - ONE), digit(y));
+        let (re, im) = entry(entries, dx, dy);
+        (x, y) = step(x, y, dx, dy, i);
+        answer_x -= re;
+        answer_y -= im;
+    }
+    Ok(Figures { x: answer_x, y: answer_y, k, q, column: share(3, px, py, n) })
+}
+
+/// What the C calls write and hand back.
+fn write_record(answer: Result<Figures, Refusal>, out: &mut [u8]) -> i64 {
+    if out.len() < 48 {
+        return Refusal::Buffer as i64;
+    }
+    let numbers = match answer {
+        Ok(f) => [0, f.x, f.y, f.k, f.q, f.column],
+        Err(refusal) => [refusal as i64, 0, 0, 0, 0, 0],
+    };
+    for (bytes, number) in out.chunks_exact_mut(8).zip(numbers) {
+        bytes.copy_from_slice(&number.to_le_bytes());
+    }
+    numbers[0]
+}
+
+// Not inlined, as the product's calls cannot be.
+
+#[inline(never)]
+pub fn exp_record(n: i64, ex: i64, ey: i64, sx: i64, sy: i64, out: &mut [u8]) -> i64 {
+    write_record(exp(n, ex, ey, sx, sy), out)
+}
+
+#[inline(never)]
+pub fn log_record(n: i64, x: i64, y: i64, out: &mut [u8]) -> i64 {
+    write_record(log(n, x, y), out)
+}

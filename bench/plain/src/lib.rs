@@ -1,0 +1,9 @@
+//! EXP, LOG and sheets of paper 01 as one would write them in Rust with nothing proved: the
+//! measure for the product. 64-bit arithmetic, static tables, the same answers bit for bit.
+
+pub mod engines;
+pub mod sheet;
+
+mod tables {
+    include!(concat!(env!("OUT_DIR"), "/tables.rs"));
+}

@@ -1,0 +1,75 @@
+//! A sheet, line by line.
+
+use crate::engines::{exp, log, Figures, Refusal};
+use std::io::{self, BufRead, Write};
+
+enum Call {
+    Exp([i64; 5]),
+    Log([i64; 3]),
+}
+
+/// An optional minus and digits, no leading zero, no -0.
+fn number(field: &[u8]) -> Option<i64> {
+    match field {
+        b"0" => Some(0),
+        [b'1'..=b'9', ..] | [b'-', b'1'..=b'9', ..] => {
+            std::str::from_utf8(field).ok()?.parse().ok()
+        }
+        _ => None,
+    }
+}
+
+/// Exactly `COUNT` numbers and nothing after them.
+fn numbers<'a, const COUNT: usize>(
+    mut fields: impl Iterator<Item = &'a [u8]>,
+) -> Option<[i64; COUNT]> {
+    let mut values = [0; COUNT];
+    for value in &mut values {
+        *value = number(fields.next()?)?;
+    }
+    fields.next().is_none().then_some(values)
+}
+
+/// The kernel number and the call of a well-formed line.
+fn parse(line: &[u8]) -> Option<(i64, Call)> {
+    let mut fields = line.split(|&byte| byte == b'\t');
+    let kernel = number(fields.next()?).filter(|k| (1..=9_999_999).contains(k))?;
+    let call = match fields.next()? {
+        b"EXP" => Call::Exp(numbers(fields)?),
+        b"LOG" => Call::Log(numbers(fields)?),
+        _ => return None,
+    };
+    Some((kernel, call))
+}
+
+/// The answer to one line, its newline included.
+pub fn answer_line(line: &[u8], out: &mut impl Write) -> io::Result<()> {
+    let refuse = |out: &mut _, kernel: i64, refusal: Refusal| {
+        Write::write_fmt(out, format_args!("{kernel}\tREF\t{}\n", refusal as i64))
+    };
+    match parse(line) {
+        None => refuse(out, 0, Refusal::Line),
+        Some((kernel, Call::Exp([n, ex, ey, sx, sy]))) => match exp(n, ex, ey, sx, sy) {
+            Ok(Figures { x, y, column, .. }) => {
+                writeln!(out, "{kernel}\tEXP\t{n}\t{x}\t{y}\t{column}")
+            }
+            Err(refusal) => refuse(out, kernel, refusal),
+        },
+        Some((kernel, Call::Log([n, x, y]))) => match log(n, x, y) {
+            Ok(Figures { x, y, k, q, column }) => {
+                writeln!(out, "{kernel}\tLOG\t{n}\t{x}\t{y}\t{k}\t{q}\t{column}")
+            }
+            Err(refusal) => refuse(out, kernel, refusal),
+        },
+    }
+}
+
+pub fn answer_sheet(mut input: impl BufRead, mut out: impl Write) -> io::Result<()> {
+    writeln!(out, "BKM\t48")?;
+    let mut line = Vec::new();
+    while input.read_until(b'\n', &mut line)? > 0 {
+        answer_line(line.strip_suffix(b"\n").unwrap_or(&line), &mut out)?;
+        line.clear();
+    }
+    out.flush()
+}

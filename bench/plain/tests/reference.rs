@@ -1,0 +1,57 @@
+//! The plain version against the second implementation of the tests.
+
+use plain::{engines, sheet};
+use reference::answer::write_record;
+use reference::samples::{exp_input, line, log_input, Random};
+use reference::width::WIDTH_48 as W;
+use reference::{exponential, logarithm};
+
+const SAMPLES: usize = 200_000;
+
+/// What a call hands back and writes.
+fn outcome(call: impl FnOnce(&mut [u8]) -> i64) -> (i64, [u8; 48]) {
+    let mut out = [0; 48];
+    (call(&mut out), out)
+}
+
+#[test]
+fn exp() {
+    let mut random = Random::new(11);
+    for _ in 0..SAMPLES {
+        let i = exp_input(&mut random, W);
+        let ours = outcome(|out| engines::exp_record(i.n, i.ex, i.ey, i.sx, i.sy, out));
+        let theirs = outcome(|out| write_record(exponential::exp(i, W), out));
+        assert_eq!(ours, theirs, "{i:?}");
+    }
+}
+
+#[test]
+fn log() {
+    let mut random = Random::new(12);
+    for _ in 0..SAMPLES {
+        let i = log_input(&mut random, W);
+        let ours = outcome(|out| engines::log_record(i.n, i.x, i.y, out));
+        let theirs = outcome(|out| write_record(logarithm::log(i, W), out));
+        assert_eq!(ours, theirs, "{i:?}");
+    }
+}
+
+#[test]
+fn lines() {
+    let mut random = Random::new(13);
+    for _ in 0..SAMPLES {
+        let line = line(&mut random, W);
+        let mut ours = Vec::new();
+        sheet::answer_line(&line, &mut ours).unwrap();
+        assert_eq!(ours, reference::sheet::answer_line(&line, W).1, "{line:?}");
+    }
+}
+
+#[test]
+fn ends_of_lines() {
+    for input in ["", "\n", "\n\n", "2\tLOG\t40\t0\t0", "1\tLOG\t9\t5\t5\n\n"] {
+        let mut ours = Vec::new();
+        sheet::answer_sheet(input.as_bytes(), &mut ours).unwrap();
+        assert_eq!(ours, reference::sheet::answer_sheet(input.as_bytes(), W), "{input:?}");
+    }
+}

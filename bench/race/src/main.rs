@@ -1,0 +1,156 @@
+//! The race: prints the tables of `bench/run` as markdown. `race calls EXP|LOG PLACE COUNT`
+//! runs COUNT small batches of one contender and nothing else, for counting instructions.
+
+mod callgrind;
+mod contenders;
+mod operation;
+mod sheets;
+mod table;
+
+use callgrind::instructions_per_item;
+use contenders::{contenders, missing, Contender, STEPS};
+use operation::Operation;
+use reference::exponential::Input as Exp;
+use reference::logarithm::Input as Log;
+use reference::samples::Random;
+use std::env;
+use std::time::Instant;
+use table::{figure, least, median, print_table};
+
+/// Inputs on which the product and the plain version must agree, byte for byte.
+const COMPARED: usize = 1_000_000;
+/// Calls in a batch, and batches of each contender; the contenders take turns.
+const BATCH: usize = 2_000;
+const ROUNDS: usize = 101;
+/// Calls in a batch whose instructions are counted.
+const SMALL_BATCH: usize = 500;
+/// Calls whose error is taken.
+const JUDGED: usize = 10_000;
+
+fn main() {
+    let arguments: Vec<String> = env::args().skip(1).collect();
+    match arguments.iter().map(String::as_str).collect::<Vec<_>>()[..] {
+        ["calls", "EXP", place, count] => calls::<Exp>(place, count),
+        ["calls", "LOG", place, count] => calls::<Log>(place, count),
+        _ => {
+            println!(
+                "Before the race the product and the plain version gave the same bytes on \
+                 {COMPARED} inputs of each call, edges and refusals among them. Times are of \
+                 {ROUNDS} rounds of {BATCH} calls, the contenders taking turns; a ratio is the \
+                 median of the rounds' ratios. Errors are the worst of {JUDGED} calls with \
+                 parts up to one, measured as demand 3 of paper 01 compares: for LOG, how far \
+                 the exponential of the answer is from the point. A unit is 2^-48."
+            );
+            race::<Exp>();
+            race::<Log>();
+            for name in missing() {
+                println!("\nNot installed, so not in the race: {name}.");
+            }
+            sheets::race();
+        }
+    }
+}
+
+fn inputs<Input: Operation>(contender: &Contender<Input>, count: usize) -> Vec<Input> {
+    let mut random = Random::new(31);
+    let n = contender.steps.unwrap_or(STEPS[0]);
+    (0..count).map(|_| Input::everyday(&mut random, n)).collect()
+}
+
+fn calls<Input: Operation>(place: &str, count: &str) {
+    let contender = &contenders::<Input>()[place.parse::<usize>().expect("a place")];
+    let inputs = inputs(contender, SMALL_BATCH);
+    for _ in 0..count.parse().expect("a count") {
+        (contender.batch)(&inputs);
+    }
+}
+
+fn compare_versions<Input: Operation>() {
+    let mut random = Random::new(32);
+    for _ in 0..COMPARED {
+        let input = Input::any(&mut random);
+        let (mut product, mut plain) = ([0; 48], [0; 48]);
+        let handed = (input.product(&mut product), input.plain(&mut plain));
+        assert!(handed.0 == handed.1 && product == plain, "{input:?}: {product:?} {plain:?}");
+    }
+}
+
+/// The worst error and the largest bound that came with an answer, in units.
+fn judge<Input: Operation>(contender: &Contender<Input>) -> (f64, Option<f64>) {
+    let (mut worst, mut largest) = (0f64, None);
+    for input in inputs(contender, JUDGED) {
+        let answer = (contender.answer)(input);
+        let error = input.error(&answer).to_f64();
+        // A column is a promise; the other bounds are not ours to check.
+        let promised = answer.bound.filter(|_| contender.steps.is_some());
+        assert!(promised.is_none_or(|bound| error <= bound), "{}: {input:?}", contender.name);
+        worst = worst.max(error);
+        largest = answer.bound.map(|bound| bound.max(largest.unwrap_or(0.0)));
+    }
+    (worst, largest)
+}
+
+/// Nanoseconds per call, by contender and round.
+fn times<Input: Operation>(all: &[Contender<Input>]) -> Vec<Vec<f64>> {
+    let batches: Vec<_> = all.iter().map(|contender| inputs(contender, BATCH)).collect();
+    let mut times = vec![Vec::new(); all.len()];
+    for round in 0..=ROUNDS {
+        for (place, contender) in all.iter().enumerate() {
+            let begin = Instant::now();
+            (contender.batch)(&batches[place]);
+            // The first round only warms up.
+            if round > 0 {
+                times[place].push(begin.elapsed().as_nanos() as f64 / BATCH as f64);
+            }
+        }
+    }
+    times
+}
+
+fn race<Input: Operation>() {
+    compare_versions::<Input>();
+    let all = contenders::<Input>();
+    let times = times(&all);
+    let ratio = |place: usize, n: i64| {
+        // The product is the first with this N; other N do other work.
+        let product = all.iter().position(|c| c.steps == Some(n)).expect("the product");
+        if all[place].steps.is_some_and(|steps| steps != n) {
+            return String::new();
+        }
+        format!("{:.2}", median(times[place].iter().zip(&times[product]).map(|(a, b)| a / b)))
+    };
+    let rows = all.iter().enumerate().map(|(place, contender)| {
+        let (worst, largest) = judge(contender);
+        let instructions = instructions_per_item([1, 3], SMALL_BATCH, |command, count| {
+            command.arg(env::current_exe().expect("this program"));
+            command.args(["calls", Input::NAME, &place.to_string(), &count.to_string()]);
+        });
+        vec![
+            contender.name.clone(),
+            format!("{:.1}", median(times[place].iter().copied())),
+            format!("{:.1}", least(&times[place])),
+            ratio(place, STEPS[0]),
+            ratio(place, STEPS[1]),
+            instructions,
+            figure(worst),
+            largest.map_or(String::new(), figure),
+            contender.bound.to_string(),
+        ]
+    });
+    let versus = |n: i64| format!("time / {}, N = {n}", Input::PRODUCT);
+    print_table(
+        Input::NAME,
+        &[
+            "",
+            "ns, median",
+            "ns, least",
+            &versus(STEPS[0]),
+            &versus(STEPS[1]),
+            "instructions",
+            "worst error, units",
+            "largest bound, units",
+            "bound",
+        ],
+        rows,
+    );
+}

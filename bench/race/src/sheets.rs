@@ -1,0 +1,122 @@
+//! Sheets: the product's program beside the plain one.
+
+use crate::callgrind::instructions_per_item;
+use crate::operation::Operation;
+use crate::table::{median, print_table};
+use reference::exponential::Input as Exp;
+use reference::logarithm::Input as Log;
+use reference::samples::Random;
+use reference::sheet::{write_line, Call, Line};
+use std::env;
+use std::fs::{self, File};
+use std::path::{Path, PathBuf};
+use std::process::{self, Command, Stdio};
+use std::time::Instant;
+
+const LINES: usize = 1_000_000;
+const ROUNDS: usize = 9;
+
+/// Lines as a sender writes them, with N from 20 to 40; one in 50 is refused and one in 50
+/// malformed.
+fn sheet(lines: usize) -> Vec<u8> {
+    let mut random = Random::new(41);
+    let mut text = Vec::new();
+    for serial in 1..=lines as i64 {
+        let n = if random.one_in(50) { 41 } else { random.between(20, 40) as i64 };
+        let call = if random.one_in(2) {
+            Call::Exp(Exp::everyday(&mut random, n))
+        } else {
+            Call::Log(Log::everyday(&mut random, n))
+        };
+        text.extend(write_line(Line { serial, call }));
+        text.extend(if random.one_in(50) { &b"\t\n"[..] } else { b"\n" });
+    }
+    text
+}
+
+/// BKM_PROGRAM, or the one of the repository.
+fn product() -> PathBuf {
+    let built = concat!(env!("CARGO_MANIFEST_DIR"), "/../../target/bin/bkm");
+    env::var_os("BKM_PROGRAM").map_or_else(|| built.into(), PathBuf::from)
+}
+
+/// Built beside this program.
+fn plain() -> PathBuf {
+    env::current_exe().expect("this program").with_file_name("plain")
+}
+
+/// A sheet in a file, removed at the end.
+struct SheetFile(PathBuf);
+
+impl SheetFile {
+    fn new(lines: usize) -> SheetFile {
+        let path = env::temp_dir().join(format!("bench-{}-{lines}.sheet", process::id()));
+        fs::write(&path, sheet(lines)).expect("room for the sheet");
+        SheetFile(path)
+    }
+
+    fn open(&self) -> File {
+        File::open(&self.0).expect("the sheet")
+    }
+}
+
+impl Drop for SheetFile {
+    fn drop(&mut self) {
+        let _ = fs::remove_file(&self.0);
+    }
+}
+
+/// Lines per second, standard output thrown away.
+fn speed(program: &Path, sheet: &SheetFile) -> f64 {
+    let begin = Instant::now();
+    let status = Command::new(program).stdin(sheet.open()).stdout(Stdio::null()).status();
+    assert!(status.expect("a program that runs").success());
+    LINES as f64 / begin.elapsed().as_secs_f64()
+}
+
+fn answers(program: &Path, sheet: &SheetFile) -> Vec<u8> {
+    let output = Command::new(program).stdin(sheet.open()).output().expect("a program that runs");
+    assert!(output.status.success());
+    output.stdout
+}
+
+pub fn race() {
+    let product = product();
+    if !product.exists() {
+        println!("\nNo program at {}: no sheets were run.", product.display());
+        return;
+    }
+    let programs = [("bkm", product), ("plain Rust", plain())];
+    let sheet = SheetFile::new(LINES);
+    let same = answers(&programs[0].1, &sheet) == answers(&programs[1].1, &sheet);
+    assert!(same, "the two programs answer differently");
+    let mut speeds = [Vec::new(), Vec::new()];
+    for _ in 0..ROUNDS {
+        for (place, (_, program)) in programs.iter().enumerate() {
+            speeds[place].push(speed(program, &sheet));
+        }
+    }
+    let small = [2_000, 12_000];
+    let small_sheets = small.map(|lines| (lines, SheetFile::new(lines)));
+    let rows = programs.iter().enumerate().map(|(place, (name, program))| {
+        let ratios = speeds[0].iter().zip(&speeds[place]).map(|(product, this)| product / this);
+        let instructions = instructions_per_item(small, 1, |command, lines| {
+            let (_, sheet) = small_sheets.iter().find(|(count, _)| *count == lines).unwrap();
+            command.arg(program).stdin(sheet.open());
+        });
+        let median_speed = median(speeds[place].iter().copied());
+        let best = speeds[place].iter().copied().fold(0.0, f64::max);
+        vec![
+            name.to_string(),
+            format!("{median_speed:.0}"),
+            format!("{best:.0}"),
+            format!("{:.2}", median(ratios)),
+            instructions,
+        ]
+    });
+    print_table(
+        &format!("Sheets of {LINES} mixed lines, the same answers byte for byte"),
+        &["", "lines per second, median", "best", "time / bkm", "instructions per line"],
+        rows,
+    );
+}
