@@ -3,9 +3,13 @@ use mathlib.Core.Bool.{Bool, true, false, not}
 use mathlib.Core.List.{List, [], _∷_}
 use Prim.Native.Nat.{ℕ, _^_, _≤_}
 use lib.IntN.{ℤ, pos, natAbs, _*ℤ_}
-use Rattle.algebra.specs.Gauss.{𝔾, gi}
+use Rattle.algebra.specs.Gauss.{𝔾, gi, ιᵍ, _-ᵍ_, _*ᵍ_}
+use Rattle.algebra.specs.Order.{_⩽_}
+use Rattle.algebra.specs.Power.{two}
 use Rattle.algebra.specs.Floor.{ceiling}
+use Rattle.algebra.specs.Parts.{abs}
 use Rattle.algebra.specs.Larger.{larger}
+use Rattle.series.specs.Series.{Sᵍ, Dᵍ, Dᶻ}
 use Rattle.point.specs.declared.Refusal.{Refusal}
 use Rattle.point.specs.declared.Refusal.the-variants.{Steps, Part, Zero}
 use Rattle.point.specs.Refusal.{refusalNumber}
@@ -15,8 +19,9 @@ use Rattle.tables.specs.Table.{stepTable, reciprocalTable}
 use Rattle.logarithm.specs.declared.Figures.{Figures}
 use Rattle.logarithm.specs.declared.Answer.{Answer}
 use Rattle.logarithm.specs.declared.Answer.the-variants.{Answered, Refused}
+use Rattle.logarithm.specs.Quadrant.{i^}
+use Rattle.logarithm.specs.Scale.{power}
 use Rattle.logarithm.specs.Run.{Log, log}
-use Rattle.logarithm.specs.Closeness.{CloseAt}
 
 -- ---- the limits (one is 2^F units; 01 has F = 48): "N from 3 to 40" is inSteps F 3, and "each part at most 2^58 in size" is inParts F
 -- (point, Limits)
@@ -54,7 +59,17 @@ unfoldable pub logRecord : Answer → List ℤ
 logRecord (Answered f) = pos 0 ∷ f .x ∷ f .y ∷ f .«binary_exponent» ∷ f .quadrant ∷ f .«error_bound» ∷ []
 logRecord (Refused r) = refusalNumber r ∷ pos 0 ∷ pos 0 ∷ pos 0 ∷ pos 0 ∷ pos 0 ∷ []
 
--- ---- what demand 3 compares: "For every T from 24 on, and every input that meets no refusal"
+-- ---- what demand 3 compares, at T terms: the exponential is S T/D T, and both sides are multiplied by the divisors 2^N and D T
+-- "2^(48+k)·i^q times the exact exponential of the answer, less the given point in units"
+abbrev pub miss : (F T : ℕ) (p : 𝔾) (r : Log) → 𝔾
+miss F T p r = ιᵍ (power F (r .k)) *ᵍ i^ (r .q) *ᵍ Sᵍ (2 ^ F) T (r .z) -ᵍ p *ᵍ Dᵍ (2 ^ F) T
+
+-- "is at most 3M/2^N in size in each part"
+pub record CloseAt (F N T : ℕ) (p : 𝔾) (r : Log) : Type 0 where
+  pub re : abs (miss F T p r .re) *ℤ two N ⩽ pos 3 *ℤ larger p *ℤ Dᶻ (2 ^ F) T
+  pub im : abs (miss F T p r .im) *ℤ two N ⩽ pos 3 *ℤ larger p *ℤ Dᶻ (2 ^ F) T
+
+-- "For every T from 24 on, and every input that meets no refusal"
 abbrev pub answered-log : Figures → Log
 answered-log f = record { z = gi (f .x) (f .y); k = f .«binary_exponent»; q = f .quadrant }
 

@@ -13,7 +13,7 @@ use Rattle.algebra.specs.Order.{_⩽_, nonneg-pos, pos-mono}
 use Rattle.algebra.specs.Linear.{lin, _&_, none}
 use Rattle.algebra.specs.Power.{two, twoᵍ, two≥1, two-suc, two-mono, below-two}
 use Rattle.algebra.specs.Within.{Within, within-mul, within-neg, within-weaken}
-use Rattle.algebra.specs.Parts.{Parts, abs, parts-abs, within-parts}
+use Rattle.algebra.specs.Parts.{Parts, parts-abs, within-parts}
 use Rattle.algebra.specs.Larger.{larger}
 use Rattle.series.specs.Series.{D, Sᵍ, Dᵍ, Dᶻ}
 use Rattle.tables.specs.Promise.{StepTable, ReciprocalTable, StepPromise, ReciprocalPromise}
@@ -23,21 +23,13 @@ use Rattle.logarithm.specs.Scale.{bit-length, binary-exponent, scaled, u
 use Rattle.logarithm.specs.Cell.{cellX, cellY, column, row, reciprocalOf, reduced, in-table, reciprocal-size, reduced-near, reduced-error}
 use Rattle.logarithm.specs.Select.{half}
 use Rattle.logarithm.specs.Run.{index, point-at, answer-of, answer, Log, log}
+use Rattle.logarithm.specs.Answer.{miss, CloseAt}
 use Rattle.logarithm.specs.Convergence.{one-halves, half-large, converges}
 use Rattle.logarithm.specs.FloorPart.{denom, numer, denom-pos, floors, numer-within}
 use Rattle.logarithm.specs.TablePart.{answer-near}
 use Rattle.logarithm.specs.Together.{together}
 
--- ---- what demand 3 compares
--- 2^(F+k)·i^q times the exponential of the answer to T terms, less the given point in units; times the divisor D T
-abbrev pub miss : ℕ → ℕ → 𝔾 → Log → 𝔾
-miss F T p r = ιᵍ (power F (r .k)) *ᵍ i^ (r .q) *ᵍ Sᵍ (2 ^ F) T (r .z) -ᵍ p *ᵍ Dᵍ (2 ^ F) T
-
--- it is at most 3M/2^N in size in each part
-pub record CloseAt (F N T : ℕ) (p : 𝔾) (r : Log) : Type 0 where
-  pub re : abs (miss F T p r .re) *ℤ two N ⩽ pos 3 *ℤ larger p *ℤ Dᶻ (2 ^ F) T
-  pub im : abs (miss F T p r .im) *ℤ two N ⩽ pos 3 *ℤ larger p *ℤ Dᶻ (2 ^ F) T
-
+-- ---- both parts
 close-parts : (F N T : ℕ) (p : 𝔾) (r : Log) → Parts (twoᵍ N *ᵍ miss F T p r) (pos 3 *ℤ larger p *ℤ Dᶻ (2 ^ F) T) → CloseAt F N T p r
 close-parts F N T p r h = let g = parts-abs (two N) (miss F T p r) h in record { re = g .0; im = g .1 }
 

@@ -32,8 +32,8 @@ use Rattle.logarithm.specs.Select.{half}
 use Rattle.logarithm.specs.Run.{index, point-at, begun, begun-answer, answer, remainder, log}
 use Rattle.logarithm.specs.Convergence.{converges, converges-times}
 use Rattle.logarithm.specs.TablePart.{answer-size, log-within}
-use Rattle.logarithm.specs.Closeness.{CloseAt, log-close}
-use Rattle.logarithm.specs.Answer.{isZero, errorBound, unless, figures, answerTo, logAnswer, Close}
+use Rattle.logarithm.specs.Closeness.{log-close}
+use Rattle.logarithm.specs.Answer.{isZero, errorBound, unless, figures, answerTo, logAnswer, Close, CloseAt}
 
 -- ---- the zero point: M is nought at nought alone
 nought : (x b : ℤ) → Size x b → b +ℤ pos 1 ⩽ pos 1 → between (pos 0) (pos 0) x ≡ true

@@ -16,13 +16,13 @@ pub mod Scale
 pub mod Cell
 pub mod Select
 pub mod Run
+pub mod Answer
 pub mod Convergence
 pub mod FloorPart
 pub mod Factor
 pub mod TablePart
 pub mod Together
 pub mod Closeness
-pub mod Answer
 pub mod Laws
 pub mod Code
 pub mod Fits
