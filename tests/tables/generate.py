@@ -1,5 +1,5 @@
 #!/usr/bin/env python3
-"""Writes every number of crates/tables, in the source and in the specification, and the proofs that go over them arm by arm.
+"""Writes every number of the tables, in the source and in the specification, and the proofs that go over them arm by arm.
 
 generate.py writes; generate.py --check compares with what stands and fails on any difference.
 """
@@ -12,7 +12,7 @@ HERE = pathlib.Path(__file__).resolve().parent
 sys.path.insert(0, str(HERE.parent))
 from make_tables import reciprocal_logs, reciprocals, step_table  # noqa: E402
 
-CRATE = HERE.parent.parent / "crates" / "tables"
+CRATES = HERE.parent.parent / "crates"
 WIDTH = 48
 
 
@@ -48,7 +48,7 @@ MADE = "Made by tests/tables/generate.py."
 SPEC_USES = """use mathlib.Core.List.{List, [], _∷_}
 use lib.IntN.{pos}
 use Rattle.algebra.specs.Gauss.{𝔾, gi}
-use Rattle.tables.specs.Listed.{neg}
+use Rattle.entries.specs.Listed.{neg}
 """
 
 
@@ -96,12 +96,11 @@ def step_name(n, place):
     return f"STEP_{n}_{('MINUS', 'ZERO', 'PLUS')[place]}"
 
 
-def source_head(about, definitions, numbers="_<_"):
+def source_head(about, definition):
     return f"""// {about} {MADE}
 ghost use mathlib.Core.Path.{{_≡_}};
-ghost use Prim.Native.Nat.{{{numbers}}};
-ghost use Rattle.tables.specs.Rows.{{{definitions}}};
-use crate::Entry;
+ghost use Rattle.entries.specs.Rows.{{{definition}}};
+use entries::Entry;
 """
 
 
@@ -110,11 +109,17 @@ def parts():
     return list(enumerate(range(1, WIDTH - 7, PART), 1))
 
 
-def array_parts():
+def array_source():
     """The array over n of three rows of three entries, and a reader of each constant."""
-    out = []
+    out = [f"""// The array over n, each element three rows by dx of three entries by dy, at the width {WIDTH}: {PART} elements to a constant. {MADE}
+ghost use mathlib.Core.Path.{{_≡_}};
+ghost use Prim.Native.Nat.{{_<_, _+_}};
+ghost use Rattle.entries.specs.Rows.{{stepRow, part}};
+use entries::Entry;
+use step_rows::steps{WIDTH} as t;
+"""]
     for number, first in parts():
-        matrices = "".join("    [%s],\n" % ", ".join(step_name(n, place) for place in range(3)) for n in range(first, first + PART))
+        matrices = "".join("    [%s],\n" % ", ".join(f"t::{step_name(n, place)}" for place in range(3)) for n in range(first, first + PART))
         out.append(f"\nconst PART_{number}: [[[Entry; 3]; 3]; {PART}] = [\n{matrices}];\n")
     for number, first in parts():
         out.append(f"""
@@ -125,12 +130,12 @@ pub fn part_{number}(i: usize, place: usize) -> [Entry; 3]
     PART_{number}[i][place]
 }}
 """)
-    return "\n// The array over n, each element three rows by dx of three entries by dy." + "".join(out)
+    return "".join(out)
 
 
 def steps_source():
-    about = f"The step table at the width {WIDTH}: a named row for each n and dx, the array of the rows, and the look-up among them."
-    out = [source_head(about, "stepRow, part, rowAt", "_<_, _+_")]
+    about = f"The step table at the width {WIDTH}: a named row for each n and dx, and the look-up among them."
+    out = [source_head(about, "rowAt")]
     none = "Entry { re: 0, im: 0 }"
     out.append(f"""
 // What stands outside the table.
@@ -144,12 +149,10 @@ pub const NO_STEP: [Entry; 3] = [
         for place, row in enumerate(rows):
             entries = "".join(f"    {indented(number_fields(e), 1)},\n" for e in row)
             out.append(f"\npub const {step_name(n, place)}: [Entry; 3] = [\n{entries}];\n")
-    out.append(array_parts())
     arms = "".join(f"        {3 * n + place} => {step_name(n, place)},\n" for n in range(1, WIDTH - 7) for place in range(3))
     out.append(f"""
 // Three rows to an n. A `match` over named rows becomes a read-only table, where a constant array would be written out at each call.
 pub fn row_at(index: usize) -> [Entry; 3]
-    requires {{ ⌜ index < {3 * (WIDTH - 7)} ⌝ }}
     ensures {{ λ r. ⌜ r ≡ rowAt index ⌝ }}
 {{
     match index {{
@@ -165,7 +168,6 @@ def cells_source(about, function, definition, table):
     arms = "".join(f"        {i} => {indented(number_fields(e), 2)},\n" for i, e in enumerate(cells))
     return f"""{source_head(about, definition)}
 pub fn {function}(cell: usize) -> Entry
-    requires {{ ⌜ cell < {len(cells) + 1} ⌝ }}
     ensures {{ λ r. ⌜ r ≡ {definition} cell ⌝ }}
 {{
     match cell {{
@@ -186,50 +188,45 @@ def reciprocal_logs_source():
 
 
 # ---- the proofs of the look-ups: in each arm the number is known, and the specification computes there to the arm's entries
-def arms_proof(function, uses, unfolds, arm, last, count):
-    module = "Rattle.tables.proofs." + ".".join(function)
-    name = "-".join(function[-1].split("_")) + "-spec"
-    needs = ["returns"] + [f"returns-{i}" for i in range(2, count + 2)]
-    proofs = [arm % (i + 1) for i in range(count)] + [last]
-    answers = "".join(f"{need} : tie.Need-{need}\nunfolding {unfolds}\n{need} c = {proof}\n\n" for need, proof in zip(needs, proofs))
-    listed_needs = "\n".join("    " + need for need in needs)
-    return f"""-- `tables::{'::'.join(function)}` meets its contract: in each arm the number is known, and the specification computes there to what the arm
+def arms_proof(function, uses, unfolds, definition, last, count):
+    crate, *path = function
+    module = f"Rattle.{crate}.proofs." + ".".join(path)
+    name = "-".join(path[-1].split("_")) + "-spec"
+    arms = "".join(f"    (λ c. ap {definition} (sym (c .match .keys{i})))\n" for i in range(1, count + 1))
+    return f"""-- `{'::'.join(function)}` meets its contract: in each arm the number is known, and the specification computes there to what the arm
 -- answers. {MADE}
-{uses}use {module}.Statement.{{statement}}
+use mathlib.Core.Path.{{sym, ap}}
+{uses}use Rattle.entries.specs.Rows.{{{definition}, {last}}}
+use {module}.Statement.{{statement}}
 use {module}.Tie as tie
 
-{answers}pub {name} : {{M : Type 1}} → statement M
+pub {name} : {{M : Type 1}} → statement M
+unfolding {unfolds}
 {name} =
     tie.close
     (tie.spec
-{listed_needs})
+{arms}    (λ c. {last} (c .before .args .{'index' if count == 120 else 'cell'}) (c .match .rest)))
 """
 
 
 def steps_proof():
-    return arms_proof(
-        (f"steps{WIDTH}", "row_at"),
-        f"""use mathlib.Core.Path.{{sym, ap}}
-use Rattle.tables.specs.Numbers{WIDTH}.{{stepLogs}}
-use Rattle.tables.specs.Table.{{stepTable}}
-use Rattle.tables.specs.Rows.{{stepRow, rowAt, other-row}}
-""",
-        "stepRow stepTable stepLogs",
-        "ap rowAt (sym (c .match .keys%d))",
-        "other-row (c .before .args .index) (c .before .pre) (c .match .rest)",
-        3 * (WIDTH - 8),
-    )
+    uses = f"""use Rattle.entries.specs.Numbers{WIDTH}.{{stepLogs}}
+use Rattle.entries.specs.Table.{{stepTable}}
+use Rattle.entries.specs.Rows.{{stepRow}}
+"""
+    return arms_proof(("step_rows", f"steps{WIDTH}", "row_at"), uses, "stepRow stepTable stepLogs", "rowAt", "other-row", 3 * (WIDTH - 8))
 
 
 def part_proof(number, first):
-    module = f"Rattle.tables.proofs.steps{WIDTH}.part_{number}"
+    module = f"Rattle.step_array.proofs.parts{WIDTH}.part_{number}"
     needs = ("mul-result", "mul-result-2", "index-1-result", "index-2-result")
     answers = "".join(f"{need} : tie.Need-{need}\n{need} c = search needs\n\n" for need in needs)
-    return f"""-- `tables::steps{WIDTH}::part_{number}` meets its contract: the array is the specification's. {MADE}
+    return f"""-- `step_array::parts{WIDTH}::part_{number}` meets its contract: the array is the specification's. {MADE}
 use borrow.Author.Needs.{{needs}}
-use Rattle.tables.specs.Numbers{WIDTH}.{{stepLogs}}
-use Rattle.tables.specs.Table.{{stepTable}}
-use Rattle.tables.specs.Rows.{{stepRow, matrices, matrices-at}}
+use Rattle.entries.specs.Numbers{WIDTH}.{{stepLogs}}
+use Rattle.entries.specs.Table.{{stepTable}}
+use Rattle.entries.specs.Rows.{{stepRow}}
+use Rattle.step_array.specs.Matrices.{{matrices, matrices-at}}
 use {module}.Statement.{{statement}}
 use {module}.Tie as tie
 
@@ -242,40 +239,30 @@ part-{number}-spec = tie.close (tie.spec {' '.join(needs)} returns)
 """
 
 
-def cells_proof(function, numbers, module, definition):
-    return arms_proof(
-        function,
-        f"""use mathlib.Core.Path.{{sym, ap}}
-use Rattle.tables.specs.{module}.{{{numbers}}}
-use Rattle.tables.specs.Rows.{{{definition}}}
-use Rattle.tables.specs.Match.{{last-cell}}
-""",
-        numbers,
-        f"ap {definition} (sym (c .match .keys%d))",
-        f"ap {definition} (last-cell (c .before .args .cell) (c .before .pre) (c .match .rest))",
-        256,
-    )
+def cells_proof(function, numbers, module, definition, last):
+    return arms_proof(function, f"use Rattle.entries.specs.{module}.{{{numbers}}}\n", numbers, definition, last, 256)
 
 
 def reciprocals_proof():
-    return cells_proof(("reciprocals", "reciprocal_at"), "reciprocals", "Reciprocals", "reciprocalAt")
+    return cells_proof(("cells", "reciprocals", "reciprocal_at"), "reciprocals", "Reciprocals", "reciprocalAt", "other-reciprocal")
 
 
 def reciprocal_logs_proof():
-    return cells_proof((f"reciprocal_logs{WIDTH}", "reciprocal_log_at"), "reciprocalLogs", f"Numbers{WIDTH}", "reciprocalLogAt")
+    return cells_proof(("cells", f"reciprocal_logs{WIDTH}", "reciprocal_log_at"), "reciprocalLogs", f"Numbers{WIDTH}", "reciprocalLogAt", "other-log")
 
 
 FILES = {
-    f"specs/Numbers{WIDTH}.antt": numbers_spec,
-    "specs/Reciprocals.antt": reciprocals_spec,
-    f"src/steps{WIDTH}.rt": steps_source,
-    "src/reciprocals.rt": reciprocals_source,
-    f"src/reciprocal_logs{WIDTH}.rt": reciprocal_logs_source,
-    f"proofs/steps{WIDTH}/row_at/Proof.antt": steps_proof,
-    "proofs/reciprocals/reciprocal_at/Proof.antt": reciprocals_proof,
-    f"proofs/reciprocal_logs{WIDTH}/reciprocal_log_at/Proof.antt": reciprocal_logs_proof,
+    f"entries/specs/Numbers{WIDTH}.antt": numbers_spec,
+    "entries/specs/Reciprocals.antt": reciprocals_spec,
+    f"step_rows/src/steps{WIDTH}.rt": steps_source,
+    "cells/src/reciprocals.rt": reciprocals_source,
+    f"cells/src/reciprocal_logs{WIDTH}.rt": reciprocal_logs_source,
+    f"step_rows/proofs/steps{WIDTH}/row_at/Proof.antt": steps_proof,
+    "cells/proofs/reciprocals/reciprocal_at/Proof.antt": reciprocals_proof,
+    f"cells/proofs/reciprocal_logs{WIDTH}/reciprocal_log_at/Proof.antt": reciprocal_logs_proof,
+    f"step_array/src/parts{WIDTH}.rt": array_source,
 } | {
-    f"proofs/steps{WIDTH}/part_{number}/Proof.antt": functools.partial(part_proof, number, first) for number, first in parts()
+    f"step_array/proofs/parts{WIDTH}/part_{number}/Proof.antt": functools.partial(part_proof, number, first) for number, first in parts()
 }
 
 
@@ -284,7 +271,7 @@ def main(arguments):
         sys.exit("usage: generate.py [--check]")
     stale = []
     for name, make in FILES.items():
-        path, text = CRATE / name, make()
+        path, text = CRATES / name, make()
         if arguments:
             if not path.exists() or path.read_text(encoding="utf-8") != text:
                 stale.append(name)

@@ -11,9 +11,9 @@ use Rattle.word.specs.Compare.{between}
 use Rattle.point.specs.Refusal.{refusalNumber}
 use Rattle.point.specs.Step.{quotient, step}
 use Rattle.point.specs.Limits.{inSteps, inBox, inParts}
-use Rattle.tables.specs.Numbers48.{stepLogs}
-use Rattle.tables.specs.Reciprocal.{reciprocal}
-use Rattle.tables.specs.Table.{stepTable}
+use Rattle.entries.specs.Numbers48.{stepLogs}
+use Rattle.entries.specs.Reciprocal.{reciprocal}
+use Rattle.entries.specs.Table.{stepTable}
 use Rattle.exponential.specs.declared.Answer.{Answer as ExpAnswer}
 use Rattle.exponential.specs.declared.Answer.the-variants.{Answered as ExpAnswered, Refused as ExpRefused}
 use Rattle.exponential.specs.Select.{select as exp-select}

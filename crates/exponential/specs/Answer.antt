@@ -15,8 +15,8 @@ use Rattle.point.specs.declared.Refusal.the-variants.{Steps, Exponent, Part}
 use Rattle.point.specs.Refusal.{refusalNumber}
 use Rattle.point.specs.Point.{gauss, point}
 use Rattle.point.specs.Limits.{inSteps, inBox, inParts}
-use Rattle.tables.specs.Promise.{StepTable}
-use Rattle.tables.specs.Table.{stepTable}
+use Rattle.entries.specs.Promise.{StepTable}
+use Rattle.entries.specs.Table.{stepTable}
 use Rattle.exponential.specs.declared.Figures.{Figures}
 use Rattle.exponential.specs.declared.Answer.{Answer}
 use Rattle.exponential.specs.declared.Answer.the-variants.{Answered, Refused}

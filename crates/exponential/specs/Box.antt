@@ -9,7 +9,7 @@ use Rattle.algebra.specs.Reify.{reify}
 use Rattle.algebra.specs.Order.{_⩽_, _⋖_, nonneg-mul, sub-nonneg}
 use Rattle.algebra.specs.Linear.{lin, lin<, _&_, _&<_, _&≡_, none}
 use Rattle.algebra.specs.Parts.{abs, abs-below}
-use Rattle.tables.specs.Window.{Span, Lies, Spans, pick}
+use Rattle.entries.specs.Window.{Span, Lies, Spans, pick}
 use Rattle.exponential.specs.Select.{Cut, minus, nought, plus}
 
 -- ---- the tests

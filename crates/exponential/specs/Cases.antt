@@ -9,8 +9,8 @@ use Rattle.algebra.specs.Larger.{larger}
 use Rattle.word.specs.Compare.{between}
 use Rattle.point.specs.Limits.{inSteps, inBox, inParts}
 use Rattle.point.specs.Step.{quotient, step}
-use Rattle.tables.specs.Numbers48.{stepLogs}
-use Rattle.tables.specs.Table.{stepTable}
+use Rattle.entries.specs.Numbers48.{stepLogs}
+use Rattle.entries.specs.Table.{stepTable}
 use Rattle.exponential.specs.Select.{select}
 use Rattle.exponential.specs.Run.{walk, residue, digit}
 use Rattle.exponential.specs.Answer.{inRectangle, errorBound, answer, expAnswer, expRecord}

@@ -14,9 +14,9 @@ use Rattle.algebra.specs.Power.{two, twoᵍ, two≥1, two-whole}
 use Rattle.algebra.specs.Parts.{abs, Parts, parts-abs}
 use Rattle.algebra.specs.Larger.{larger, larger-parts}
 use Rattle.series.specs.Series.{D, Dᶻ}
-use Rattle.tables.specs.Promise.{StepTable, StepPromise}
-use Rattle.tables.specs.Table.{stepTable}
-use Rattle.tables.specs.Promise48.{step-promise}
+use Rattle.entries.specs.Promise.{StepTable, StepPromise}
+use Rattle.entries.specs.Table.{stepTable}
+use Rattle.entries.specs.Promise48.{step-promise}
 use Rattle.point.specs.Limits.{inSteps, inParts, Counts, steps-say, box-says}
 use Rattle.point.specs.declared.Refusal.the-variants.{Steps, Exponent, Part}
 use Rattle.exponential.specs.declared.Answer.{Answer}

@@ -12,8 +12,8 @@ use Rattle.algebra.specs.Order.{_⩽_, _⋖_, nonneg-pos}
 use Rattle.algebra.specs.Linear.{lin, _&_, _&≡_, none}
 use Rattle.algebra.specs.Power.{two, two≥1, two-mono, two-halve, two-part}
 use Rattle.algebra.specs.Parts.{abs, Parts, below-size}
-use Rattle.tables.specs.Window.{Span, about, Lies, real, imag}
-use Rattle.tables.specs.Promise.{StepTable, look, StepEntry, StepPromise}
+use Rattle.entries.specs.Window.{Span, about, Lies, real, imag}
+use Rattle.entries.specs.Promise.{StepTable, look, StepEntry, StepPromise}
 use Rattle.exponential.specs.Select.{cut-says, low-x, high-x, low-y, high-y, select, select-digit}
 use Rattle.exponential.specs.Run.{residue}
 use Rattle.exponential.specs.Box.{Fits, Inside, part, ends}

@@ -14,8 +14,8 @@ use Rattle.algebra.specs.Power.{two, two≥1, two-mono, two-part}
 use Rattle.algebra.specs.Within.{Within}
 use Rattle.algebra.specs.Parts.{Size, parts-length}
 use Rattle.point.specs.Digit.{Trit, t-, t0, t+, IsDigit}
-use Rattle.tables.specs.Window.{Span, Spans, pick, real, imag, Lies}
-use Rattle.tables.specs.Promise.{StepEntry}
+use Rattle.entries.specs.Window.{Span, Spans, pick, real, imag, Lies}
+use Rattle.entries.specs.Promise.{StepEntry}
 
 -- ---- the windows end at 3217/2048 of h: one computed test for each step
 abbrev Ends : Span → Type 0

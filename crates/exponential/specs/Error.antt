@@ -14,7 +14,7 @@ use Rattle.algebra.specs.Power.{two, twoᵍ}
 use Rattle.algebra.specs.Within.{within-mul}
 use Rattle.algebra.specs.Parts.{Parts, parts-sub, parts-scale, parts-cancel, parts-within, within-parts}
 use Rattle.series.specs.Series.{D, Sᵍ, Dᵍ, Dᶻ}
-use Rattle.tables.specs.Promise.{StepTable, StepPromise}
+use Rattle.entries.specs.Promise.{StepTable, StepPromise}
 use Rattle.exponential.specs.Run.{digit, digit-is, run}
 use Rattle.exponential.specs.Convergence.{Rectangle}
 use Rattle.exponential.specs.Product.{Δ, Π, Δ≥1}

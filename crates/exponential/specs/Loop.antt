@@ -16,12 +16,13 @@ use Rattle.point.specs.declared.Digit.{Digit}
 use Rattle.point.specs.Point.{gauss, gaussᵈ, point, digit}
 use Rattle.point.specs.Digit.{IsDigit}
 use Rattle.point.specs.Step.{step}
-use Rattle.tables.specs.declared.Entry.{Entry}
-use Rattle.tables.specs.Listed.{place}
-use Rattle.tables.specs.Promise.{look}
-use Rattle.tables.specs.Table.{stepTable}
-use Rattle.tables.specs.Promise48.{step-promise}
-use Rattle.tables.specs.Rows.{number, none, stepRow, row-entry}
+use Rattle.entries.specs.declared.Entry.{Entry}
+use Rattle.entries.specs.Listed.{byDigit}
+use Rattle.entries.specs.Promise.{look}
+use Rattle.entries.specs.Table.{stepTable}
+use Rattle.entries.specs.Promise48.{step-promise}
+use Rattle.tables.specs.Digits.{place, by-place}
+use Rattle.entries.specs.Rows.{number, none, stepRow, row-entry}
 use Rattle.exponential.specs.Select.{select, select-digit}
 use Rattle.exponential.specs.Run.{residue, run, residue-suc, run-suc, digit-is}
 use Rattle.exponential.specs.Run as Run
@@ -46,7 +47,7 @@ module _ {e₀ s₀ : 𝔾} {k : ℕ} {e s : Point} {d : Digit} {row : List Entr
 
   -- the entry for dy
   entry-is : number (getD row (place (d .dy)) none) ≡ look stepTable (suc k) (gaussᵈ d)
-  entry-is = ap (λ r. number (getD r (place (d .dy)) none)) (turn .found ∙ ap (stepRow (suc k)) (back (trit-fits (is-digit .x))))
+  entry-is = ap number (by-place row none (is-digit .y)) ∙ ap (λ r. number (byDigit r none (d .dy))) (turn .found ∙ ap (stepRow (suc k)) (back (trit-fits (is-digit .x))))
       ∙ ap number (row-entry (suc k) (d .dx) (d .dy))
 
   -- ---- the sizes

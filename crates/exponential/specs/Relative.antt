@@ -16,7 +16,7 @@ use Rattle.algebra.specs.Within.{Within, within-add, within-mul, within-ratio, 
 use Rattle.algebra.specs.Parts.{Parts, parts-weaken, parts-length}
 use Rattle.series.specs.Series.{Sᵍ, Dᶻ, D-pos}
 use Rattle.series.specs.Laws.{laws-at}
-use Rattle.tables.specs.Promise.{StepTable, look, StepEntry, StepPromise}
+use Rattle.entries.specs.Promise.{StepTable, look, StepEntry, StepPromise}
 use Rattle.exponential.specs.Select.{select}
 use Rattle.exponential.specs.Run.{residue, digit, digit-is}
 use Rattle.exponential.specs.Convergence.{Rectangle, below-parts, converges}

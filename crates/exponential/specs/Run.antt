@@ -10,7 +10,7 @@ use lib.Seq.{take-all, take-append-le}
 use Rattle.algebra.specs.Gauss.{𝔾, _-ᵍ_}
 use Rattle.point.specs.Digit.{IsDigit}
 use Rattle.point.specs.Step.{step}
-use Rattle.tables.specs.Promise.{StepTable, look}
+use Rattle.entries.specs.Promise.{StepTable, look}
 use Rattle.exponential.specs.Select.{select, select-digit}
 
 -- the start s after n steps by the digits d 0, d 1, ..: step n + 1 takes d n

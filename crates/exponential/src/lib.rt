@@ -7,17 +7,17 @@ ghost use Rattle.algebra.specs.Parts.{Parts};
 ghost use Rattle.algebra.specs.Power.{two};
 ghost use Rattle.point.specs.Point.{gauss, point, digit};
 ghost use Rattle.point.specs.Digit.{Trit};
-ghost use Rattle.tables.specs.Listed.{place};
-ghost use Rattle.tables.specs.Rows.{number, none};
-ghost use Rattle.tables.specs.Table.{stepTable};
+ghost use Rattle.entries.specs.Rows.{number, none};
+ghost use Rattle.entries.specs.Table.{stepTable};
+ghost use Rattle.tables.specs.Digits.{place};
 ghost use Rattle.exponential.specs.Select.{cut, select};
 ghost use Rattle.exponential.specs.Run.{run};
 ghost use Rattle.exponential.specs.Convergence.{Rectangle};
 ghost use Rattle.exponential.specs.Answer.{errorBound, expAnswer, Close};
+use entries::Entry;
 use point::Digit;
 use point::Point;
 use point::Refusal;
-use tables::Entry;
 
 // The start times the exponential of the exponent, nearly, and a bound of the error in each part, in units.
 pub struct Figures {

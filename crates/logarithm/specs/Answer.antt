@@ -14,8 +14,8 @@ use Rattle.point.specs.declared.Refusal.{Refusal}
 use Rattle.point.specs.declared.Refusal.the-variants.{Steps, Part, Zero}
 use Rattle.point.specs.Refusal.{refusalNumber}
 use Rattle.point.specs.Limits.{inSteps, inBox, inParts}
-use Rattle.tables.specs.Promise.{StepTable, ReciprocalTable}
-use Rattle.tables.specs.Table.{stepTable, reciprocalTable}
+use Rattle.entries.specs.Promise.{StepTable, ReciprocalTable}
+use Rattle.entries.specs.Table.{stepTable, reciprocalTable}
 use Rattle.logarithm.specs.declared.Figures.{Figures}
 use Rattle.logarithm.specs.declared.Answer.{Answer}
 use Rattle.logarithm.specs.declared.Answer.the-variants.{Answered, Refused}

@@ -19,7 +19,7 @@ use Rattle.algebra.specs.Range.{les, Les, les-say, all-from}
 use Rattle.algebra.specs.Power.{two, twoᵍ, two-pos, two-whole, two-mono}
 use Rattle.algebra.specs.Floor.{floor-lo, floor-hi, floor-unique, nearest}
 use Rattle.algebra.specs.Parts.{Parts, floorᵍ, parts-floor, within-parts}
-use Rattle.tables.specs.Reciprocal.{reciprocal, centre, InTable}
+use Rattle.entries.specs.Reciprocal.{reciprocal, centre, InTable}
 use Rattle.logarithm.specs.Scale.{Scaled}
 
 -- ---- the definition

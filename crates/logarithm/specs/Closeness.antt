@@ -16,8 +16,8 @@ use Rattle.algebra.specs.Within.{Within, within-mul, within-neg, within-weaken}
 use Rattle.algebra.specs.Parts.{Parts, parts-abs, within-parts}
 use Rattle.algebra.specs.Larger.{larger}
 use Rattle.series.specs.Series.{D, Sᵍ, Dᵍ, Dᶻ}
-use Rattle.tables.specs.Promise.{StepTable, ReciprocalTable, StepPromise, ReciprocalPromise}
-use Rattle.tables.specs.Reciprocal.{InTable}
+use Rattle.entries.specs.Promise.{StepTable, ReciprocalTable, StepPromise, ReciprocalPromise}
+use Rattle.entries.specs.Reciprocal.{InTable}
 use Rattle.logarithm.specs.Quadrant.{quadrant, turned, i^, point-is, within-i, turned-re, Cone, cone-pos, cone-parts, turned-cone}
 use Rattle.logarithm.specs.Scale.{bit-length, binary-exponent, scaled, up, down, up-down, scaled-error, Scaled, scaled-ranges, power, power-is}
 use Rattle.logarithm.specs.Cell.{cellX, cellY, column, row, reciprocalOf, reduced, in-table, reciprocal-size, reduced-near, reduced-error}

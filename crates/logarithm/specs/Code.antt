@@ -10,9 +10,9 @@ use Rattle.algebra.specs.Within.{Within}
 use Rattle.algebra.specs.Parts.{Size, Parts}
 use Rattle.point.specs.declared.Point.{Point}
 use Rattle.point.specs.Point.{gauss, point}
-use Rattle.tables.specs.declared.Entry.{Entry}
-use Rattle.tables.specs.Rows.{number}
-use Rattle.tables.specs.Table.{stepTable, reciprocalTable}
+use Rattle.entries.specs.declared.Entry.{Entry}
+use Rattle.entries.specs.Rows.{number}
+use Rattle.entries.specs.Table.{stepTable, reciprocalTable}
 use Rattle.logarithm.specs.declared.Turn.{Turn}
 use Rattle.logarithm.specs.declared.State.{State}
 use Rattle.logarithm.specs.declared.Figures.{Figures}

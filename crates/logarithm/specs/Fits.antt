@@ -21,7 +21,7 @@ use Rattle.word.specs.Fits.{zero-sub, sfits-range, sfits-size, sfits-pos, sfits
 use Rattle.word.specs.Shift.{size-shift, shift-constant-word}
 use Rattle.point.specs.declared.Point.{Point}
 use Rattle.point.specs.Point.{gauss, point}
-use Rattle.tables.specs.declared.Entry.{Entry}
+use Rattle.entries.specs.declared.Entry.{Entry}
 use Rattle.logarithm.specs.Quadrant.{turns-back, quarters, spelling, turn-is, cone-pos, cone-parts}
 use Rattle.logarithm.specs.Scale.{bit-length, scaled, up, down, length-law, length-le, scaled-exact}
 use Rattle.logarithm.specs.Select.{half}

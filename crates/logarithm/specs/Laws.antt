@@ -20,9 +20,9 @@ use Rattle.algebra.specs.Larger.{larger, larger-parts, larger-le}
 use Rattle.word.specs.Compare.{between, is-between}
 use Rattle.point.specs.Limits.{inSteps, inBox, inParts, Counts, steps-say, parts-say}
 use Rattle.point.specs.declared.Refusal.the-variants.{Steps, Part, Zero}
-use Rattle.tables.specs.Promise.{StepTable, ReciprocalTable, StepPromise, ReciprocalPromise}
-use Rattle.tables.specs.Table.{stepTable, reciprocalTable}
-use Rattle.tables.specs.Promise48.{step-promise, reciprocal-promise}
+use Rattle.entries.specs.Promise.{StepTable, ReciprocalTable, StepPromise, ReciprocalPromise}
+use Rattle.entries.specs.Table.{stepTable, reciprocalTable}
+use Rattle.entries.specs.Promise48.{step-promise, reciprocal-promise}
 use Rattle.logarithm.specs.declared.Answer.{Answer}
 use Rattle.logarithm.specs.declared.Answer.the-variants.{Answered, Refused}
 use Rattle.logarithm.specs.Quadrant.{turned, Cone, cone-pos, turned-cone, turned-re}

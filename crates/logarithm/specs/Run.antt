@@ -6,7 +6,7 @@ use Rattle.algebra.specs.Gauss.{𝔾, negᵍ, _-ᵍ_}
 use Rattle.algebra.specs.Power.{twoᵍ}
 use Rattle.point.specs.Digit.{IsDigit}
 use Rattle.point.specs.Step.{step}
-use Rattle.tables.specs.Promise.{StepTable, ReciprocalTable, look}
+use Rattle.entries.specs.Promise.{StepTable, ReciprocalTable, look}
 use Rattle.logarithm.specs.Quadrant.{quadrant, turned}
 use Rattle.logarithm.specs.Scale.{binary-exponent, scaled}
 use Rattle.logarithm.specs.Cell.{cellX, cellY, reduced}

@@ -17,12 +17,12 @@ use Rattle.point.specs.declared.Point.{Point}
 use Rattle.point.specs.Point.{gauss, point}
 use Rattle.point.specs.Limits.{steps-say, parts-say}
 use Rattle.point.specs.Step.{step}
-use Rattle.tables.specs.declared.Entry.{Entry}
-use Rattle.tables.specs.Reciprocal.{InTable}
-use Rattle.tables.specs.Promise.{look}
-use Rattle.tables.specs.Table.{stepTable, reciprocalTable}
-use Rattle.tables.specs.Promise48.{step-promise, reciprocal-promise}
-use Rattle.tables.specs.Rows.{entry, number}
+use Rattle.entries.specs.declared.Entry.{Entry}
+use Rattle.entries.specs.Reciprocal.{InTable}
+use Rattle.entries.specs.Promise.{look}
+use Rattle.entries.specs.Table.{stepTable, reciprocalTable}
+use Rattle.entries.specs.Promise48.{step-promise, reciprocal-promise}
+use Rattle.entries.specs.Rows.{entry, number}
 use Rattle.logarithm.specs.declared.State.{State}
 use Rattle.logarithm.specs.Quadrant.{turned, cone-pos}
 use Rattle.logarithm.specs.Scale.{bits, bit-length, binary-exponent, scaled, Scaled, scaled-ranges}

@@ -16,8 +16,8 @@ use Rattle.algebra.specs.Power.{two, twoᵍ, two-pos, two-mono, two-mul-le, two
 use Rattle.algebra.specs.Within.{Within, within-ι, within-neg, within-sub, within-weaken, within-cancel, within-less}
 use Rattle.series.specs.Series.{D-pos, Sᵍ, Dᵍ, Dᶻ, S-at-zero}
 use Rattle.series.specs.Laws.{laws-at}
-use Rattle.tables.specs.Promise.{StepTable, StepPromise, ReciprocalEntry, look}
-use Rattle.tables.specs.EntrySize.{entry-size}
+use Rattle.entries.specs.Promise.{StepTable, StepPromise, ReciprocalEntry, look}
+use Rattle.entries.specs.EntrySize.{entry-size}
 use Rattle.logarithm.specs.Select.{half}
 use Rattle.logarithm.specs.Run.{index, digit-at, digit-at-digit, answer-at}
 use Rattle.logarithm.specs.Convergence.{half-halve, one-halves}

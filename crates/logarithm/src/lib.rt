@@ -6,17 +6,17 @@ ghost use Rattle.algebra.specs.Order.{_⩽_};
 ghost use Rattle.algebra.specs.Power.{two, twoᵍ};
 ghost use Rattle.algebra.specs.Parts.{Parts, floorᵍ};
 ghost use Rattle.point.specs.Point.{gauss, point, digit};
-ghost use Rattle.tables.specs.Rows.{number};
+ghost use Rattle.entries.specs.Rows.{number};
 ghost use Rattle.logarithm.specs.Quadrant.{inCone, turn-back};
 ghost use Rattle.logarithm.specs.Scale.{bits, scaled};
 ghost use Rattle.logarithm.specs.Select.{cut, select};
 ghost use Rattle.logarithm.specs.Answer.{logAnswer, Close};
 ghost use Rattle.logarithm.specs.Code.{turnOf, ScalePre, ReducePre, begunOf, SelectPre, LessPre, RunPre, runOf, BoundPre, boundAt, figuresOf};
 ghost use Rattle.logarithm.specs.Laws.{Accepted};
+use entries::Entry;
 use point::Digit;
 use point::Point;
 use point::Refusal;
-use tables::Entry;
 
 // The logarithm's two parts in units: the point is 2^binary_exponent * i^quadrant * exp(x + iy), nearly, and error_bound says how nearly.
 pub struct Figures {

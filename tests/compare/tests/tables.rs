@@ -5,10 +5,10 @@ use reference::tables::{cell_xs, cell_ys, reciprocal, tables};
 use reference::width::WIDTH_48;
 use std::fs;
 
-/// The entries that a source file writes out, in their order: each `re: A` and the `im: B`
-/// behind it.
+/// The entries that a source file of `crates/` writes out, in their order: each `re: A` and the
+/// `im: B` behind it.
 fn entries(file: &str) -> Vec<Point> {
-    let path = format!("{}/../../crates/tables/src/{file}", env!("CARGO_MANIFEST_DIR"));
+    let path = format!("{}/../../crates/{file}", env!("CARGO_MANIFEST_DIR"));
     let text = fs::read_to_string(&path).unwrap_or_else(|error| panic!("{path}: {error}"));
     let numbers = |name: &str| -> Vec<i128> {
         text.split(&format!("{name}: "))
@@ -34,7 +34,7 @@ fn step_table() {
             }
         }
     }
-    assert_eq!(entries("steps48.rt"), wanted);
+    assert_eq!(entries("step_rows/src/steps48.rt"), wanted);
 }
 
 /// The entries by columns of cells, and what stands outside.
@@ -48,13 +48,13 @@ fn cells(entry: impl Fn(i128, i128) -> Point) -> Vec<Point> {
 
 #[test]
 fn reciprocals() {
-    assert_eq!(entries("reciprocals.rt"), cells(reciprocal));
+    assert_eq!(entries("cells/src/reciprocals.rt"), cells(reciprocal));
 }
 
 #[test]
 fn reciprocal_logs() {
     assert_eq!(
-        entries("reciprocal_logs48.rt"),
+        entries("cells/src/reciprocal_logs48.rt"),
         cells(|x, y| tables(WIDTH_48).reciprocal_log(x, y))
     );
 }

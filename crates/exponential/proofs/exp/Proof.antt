@@ -6,7 +6,7 @@ use borrow.Author.Tests.{not-true, not-false}
 use Rattle.word.specs.Fits.{back, sfits-mag}
 use Rattle.point.specs.Point.{gauss}
 use Rattle.point.specs.Limits.{inSteps, inParts, steps-say, parts-say}
-use Rattle.tables.specs.Table.{stepTable}
+use Rattle.entries.specs.Table.{stepTable}
 use Rattle.exponential.specs.declared.Answer.the-variants.{Answered}
 use Rattle.exponential.specs.Answer.{inRectangle}
 use Rattle.exponential.specs.Close.{Accepted, rectangle-says, refused-steps, refused-exponent, refused-part, answered, settled}

@@ -2,8 +2,7 @@
 use native.Mathlib.Omega.{arith}
 use Rattle.algebra.specs.Gauss.{_+ᵍ_, negᵍ}
 use Rattle.word.specs.Fits.{back}
-use Rattle.tables.specs.Listed.{next-fits, place-word}
-use Rattle.tables.specs.Rows.{place-lt}
+use Rattle.tables.specs.Digits.{place-lt, next-fits, place-word}
 use Rattle.exponential.specs.Words.{less-fits}
 use Rattle.exponential.proofs.less.Statement.{statement}
 use Rattle.exponential.proofs.less.Tie as tie
@@ -12,13 +11,13 @@ add-at : tie.Need-add-at
 add-at c = next-fits (c .before .before .pre .0)
 
 cast-at : tie.Need-cast-at
-cast-at c = let s = c .before .before in rw (place-word (s .pre .0)) (tt, record { fits = omega (arith, place-lt (s .args .dy)) })
+cast-at c = let d = c .before .before .pre .0 in rw (place-word d) (tt, record { fits = omega (arith, place-lt d) })
 
 mul-entry : tie.Need-mul-entry
-mul-entry c = let s = c .before .before in rw (place-word (s .pre .0)) (record { fits = omega (arith, place-lt (s .args .dy)) })
+mul-entry c = let d = c .before .before .pre .0 in rw (place-word d) (record { fits = omega (arith, place-lt d) })
 
 array-copy-out-entry : tie.Need-array-copy-out-entry
-array-copy-out-entry c = let s = c .before .before in rw (place-word (s .pre .0)) (place-lt (s .args .dy))
+array-copy-out-entry c = let d = c .before .before .pre .0 in rw (place-word d) (place-lt d)
 
 sub-t11 : tie.Need-sub-t11
 sub-t11 c =

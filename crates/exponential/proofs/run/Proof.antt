@@ -7,8 +7,8 @@ use mir.Syntax.{w64}
 use mir.Val.{toZ, ofZ}
 use Rattle.point.specs.Point.{gauss, gaussᵈ, point, digit}
 use Rattle.point.specs.Step.{step}
-use Rattle.tables.specs.Table.{stepTable}
-use Rattle.tables.specs.Rows.{stepRow}
+use Rattle.entries.specs.Table.{stepTable}
+use Rattle.entries.specs.Rows.{stepRow}
 use Rattle.exponential.specs.Select.{select}
 use Rattle.exponential.specs.Run.{residue, run, walk}
 use Rattle.exponential.specs.Loop.{Turn, is-digit, dy-word, start-size, exponent-size, entry-size, next-exponent, next-start}

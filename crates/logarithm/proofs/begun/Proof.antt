@@ -13,9 +13,9 @@ use Rattle.word.specs.Fits.{back, sfits-mag}
 use Rattle.word.specs.Shift.{sfits-shift}
 use Rattle.point.specs.declared.Point.{Point}
 use Rattle.point.specs.Point.{gauss, point}
-use Rattle.tables.specs.Reciprocal.{reciprocal, centre, InTable}
-use Rattle.tables.specs.Table.{reciprocalTable}
-use Rattle.tables.specs.Rows.{number}
+use Rattle.entries.specs.Reciprocal.{reciprocal, centre, InTable}
+use Rattle.entries.specs.Table.{reciprocalTable}
+use Rattle.entries.specs.Rows.{number}
 use Rattle.logarithm.specs.Scale.{scaled}
 use Rattle.logarithm.specs.Cell.{column, row, cellX, cellY, reciprocalOf, reduced}
 use Rattle.logarithm.specs.Code.{ReducePre}

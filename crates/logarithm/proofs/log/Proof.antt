@@ -8,7 +8,7 @@ use borrow.Author.Tests.{not-true, not-false}
 use Rattle.word.specs.Fits.{back}
 use Rattle.word.specs.Compare.{between}
 use Rattle.point.specs.Point.{gauss}
-use Rattle.tables.specs.Table.{stepTable, reciprocalTable}
+use Rattle.entries.specs.Table.{stepTable, reciprocalTable}
 use Rattle.logarithm.specs.declared.Answer.the-variants.{Answered}
 use Rattle.logarithm.specs.Code.{figuresOf}
 use Rattle.point.specs.Limits.{inSteps, inParts, steps-say}

@@ -3,17 +3,16 @@ use mathlib.Core.Path.{_≡_, refl, sym, _∙_, ap, ap₂, subst}
 use Prim.Native.Nat.{suc, _-_, _≤_}
 use native.Mathlib.Numerals.{add-one}
 use native.Mathlib.Omega.{arith}
-use lib.ListN.{getD}
 use Rattle.algebra.specs.Gauss.{_-ᵍ_}
 use Rattle.word.specs.Fits.{back, sfits-mag}
 use Rattle.point.specs.declared.Digit.{Digit}
 use Rattle.point.specs.Point.{gauss, gaussᵈ, point, digit}
 use Rattle.point.specs.Digit.{IsDigit}
 use Rattle.point.specs.Step.{step}
-use Rattle.tables.specs.Listed.{place}
-use Rattle.tables.specs.Promise.{look}
-use Rattle.tables.specs.Table.{stepTable}
-use Rattle.tables.specs.Rows.{entry, number, none, stepRow, row-entry}
+use Rattle.entries.specs.Listed.{byDigit}
+use Rattle.entries.specs.Promise.{look}
+use Rattle.entries.specs.Table.{stepTable}
+use Rattle.entries.specs.Rows.{entry, number, none, stepRow, row-entry}
 use Rattle.logarithm.specs.Select.{select, select-digit}
 use Rattle.logarithm.specs.Run.{point-at, answer-at}
 use Rattle.logarithm.specs.Code.{LessPre, runOf}
@@ -57,7 +56,7 @@ picked c =
     let dx = back (sfits-mag (s .selected .result .dx) (t .struct-told .given .0 .1)) ∙ ap (λ (d : Digit). d .dx) (chosen s) in
     let dy = back (sfits-mag (s .selected .result .dy) (r .before .struct-told2 .given .1 .0 .1)) ∙ ap (λ (d : Digit). d .dy) (chosen s) in
     let row = r .row .ensures .0 ∙ ap₂ stepRow (add-one k) dx in
-    c .pick .ensures ∙ (ap₂ (λ x y. getD x (place y) none) row dy ∙ row-entry (suc k) _ _)
+    c .pick .ensures ∙ (ap₂ (λ x y. byDigit x none y) row dy ∙ row-entry (suc k) _ _)
 
 step-requires : tie.Need-step-requires Inv-loop μ-loop
 step-requires c κs =

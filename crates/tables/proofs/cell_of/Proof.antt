@@ -2,7 +2,7 @@
 use native.Mathlib.Omega.{arith}
 use Rattle.word.specs.Fits.{back}
 use Rattle.word.specs.Compare.{ltZ-true, ltZ-false}
-use Rattle.tables.specs.Cell.{no-column-below, no-column-above, no-row-below, no-row-above, cell-found, cell-fits}
+use Rattle.tables.specs.CellNumber.{no-column-below, no-column-above, no-row-below, no-row-above, cell-found, cell-fits}
 use Rattle.tables.proofs.cell_of.Statement.{statement}
 use Rattle.tables.proofs.cell_of.Tie as tie
 

@@ -2,8 +2,9 @@
 use mathlib.Core.Path.{_∙_, ap, ap₂}
 use borrow.Author.Needs.{needs}
 use Rattle.word.specs.Fits.{back}
-use Rattle.tables.specs.Cell.{cellOf}
-use Rattle.tables.specs.Rows.{reciprocalAt, reciprocal-kept}
+use Rattle.entries.specs.Cell.{cellOf}
+use Rattle.entries.specs.Rows.{reciprocalAt}
+use Rattle.tables.specs.Promised.{reciprocal-kept}
 use Rattle.tables.proofs.reciprocal.Statement.{statement}
 use Rattle.tables.proofs.reciprocal.Tie as tie
 

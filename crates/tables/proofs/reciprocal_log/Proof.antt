@@ -2,9 +2,10 @@
 use mathlib.Core.Path.{sym, _∙_, ap, ap₂}
 use borrow.Author.Needs.{needs}
 use Rattle.word.specs.Fits.{back}
-use Rattle.tables.specs.Cell.{cellOf}
-use Rattle.tables.specs.Table.{reciprocal-table-at}
-use Rattle.tables.specs.Rows.{entry, reciprocalLogAt, log-kept}
+use Rattle.entries.specs.Cell.{cellOf}
+use Rattle.entries.specs.Table.{reciprocal-table-at}
+use Rattle.entries.specs.Rows.{entry, reciprocalLogAt}
+use Rattle.tables.specs.Promised.{log-kept}
 use Rattle.tables.proofs.reciprocal_log.Statement.{statement}
 use Rattle.tables.proofs.reciprocal_log.Tie as tie
 

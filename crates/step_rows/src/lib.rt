@@ -1,0 +1,2 @@
+// The rows of the step table and the look-up among them.
+pub mod steps48;
