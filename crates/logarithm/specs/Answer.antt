@@ -13,6 +13,7 @@ use Rattle.series.specs.Series.{Sᵍ, Dᵍ, Dᶻ}
 use Rattle.point.specs.declared.Refusal.{Refusal}
 use Rattle.point.specs.declared.Refusal.the-variants.{Steps, Part, Zero}
 use Rattle.point.specs.Refusal.{refusalNumber}
+use Rattle.point.specs.Point.{gauss, point}
 use Rattle.point.specs.Limits.{inSteps, inBox, inParts}
 use Rattle.entries.specs.Promise.{StepTable, ReciprocalTable}
 use Rattle.entries.specs.Table.{stepTable, reciprocalTable}
@@ -40,7 +41,7 @@ unless true r a = a
 unless false r a = Refused r
 
 abbrev pub figures : Log → ℤ → Figures
-figures r b = record { x = r .z .re; y = r .z .im; «binary_exponent» = r .k; quadrant = r .q; «error_bound» = b }
+figures r b = record { value = point (r .z); «binary_exponent» = r .k; quadrant = r .q; «error_bound» = b }
 
 -- "first 1, N outside 3 to 40; then 3, a part over 2^58 in size; then 4, the zero point"
 unfoldable pub answerTo : ℕ → StepTable → ReciprocalTable → ℤ → 𝔾 → Answer
@@ -56,7 +57,7 @@ logAnswer n x y = answerTo 48 stepTable reciprocalTable n (gi x y)
 
 -- 01's six numbers of an answer: "the refusal number or 0, the two parts, k, q and the column", and "All figures, k, q and the column are zero"
 unfoldable pub logRecord : Answer → List ℤ
-logRecord (Answered f) = pos 0 ∷ f .x ∷ f .y ∷ f .«binary_exponent» ∷ f .quadrant ∷ f .«error_bound» ∷ []
+logRecord (Answered f) = pos 0 ∷ f .value .x ∷ f .value .y ∷ f .«binary_exponent» ∷ f .quadrant ∷ f .«error_bound» ∷ []
 logRecord (Refused r) = refusalNumber r ∷ pos 0 ∷ pos 0 ∷ pos 0 ∷ pos 0 ∷ pos 0 ∷ []
 
 -- ---- what demand 3 compares, at T terms: the exponential is S T/D T, and both sides are multiplied by the divisors 2^N and D T
@@ -71,7 +72,7 @@ pub record CloseAt (F N T : ℕ) (p : 𝔾) (r : Log) : Type 0 where
 
 -- "For every T from 24 on, and every input that meets no refusal"
 abbrev pub answered-log : Figures → Log
-answered-log f = record { z = gi (f .x) (f .y); k = f .«binary_exponent»; q = f .quadrant }
+answered-log f = record { z = gauss (f .value); k = f .«binary_exponent»; q = f .quadrant }
 
 abbrev pub Close : ℤ → ℤ → ℤ → Answer → Type 0
 Close n x y (Answered f) = (T : ℕ) → 24 ≤ T → CloseAt 48 (natAbs n) T (gi x y) (answered-log f)

@@ -18,10 +18,9 @@ use point::Digit;
 use point::Point;
 use point::Refusal;
 
-// The logarithm's two parts in units: the point is 2^binary_exponent * i^quadrant * exp(x + iy), nearly, and error_bound says how nearly.
+// The logarithm in units: the point is 2^binary_exponent * i^quadrant * exp(value), nearly, and error_bound says how nearly.
 pub struct Figures {
-    pub x: i64,
-    pub y: i64,
+    pub value: Point,
     pub binary_exponent: i64,
     pub quadrant: i64,
     pub error_bound: i64,
@@ -281,14 +280,11 @@ fn accepted(n: usize, p: Point) -> Figures
     let m = w.x;
     let b = bit_length(m);
     let s = run(n, begun(w, b));
-    let z = s.answer;
-    let x = z.x;
-    let y = z.y;
+    let value = s.answer;
     let binary_exponent = (b as i64) - 48;
     let error_bound = error_bound(n, m);
     Figures {
-        x,
-        y,
+        value,
         binary_exponent,
         quadrant,
         error_bound,

@@ -54,16 +54,16 @@ run-requires c κs =
     let n = count-ok (s .pre) in
     subst (RunPre (s .args .n)) (sym (c .begun .ensures)) (run-ok (scalable (c .before)) (s .args .n) (n .0) (n .1))
 
-abbrev lengthened : tie.After-struct-told4 → tie.After-bit-length
-lengthened c = c .before .before .before .before .before
+abbrev lengthened : tie.After-value → tie.After-bit-length
+lengthened c = c .before .before .before
 
-word-is : (c : tie.After-struct-told4) → toZ w64 (lengthened c .bit-length .result) ≡ pos (lengthened c .bit-length .result)
+word-is : (c : tie.After-value) → toZ w64 (lengthened c .bit-length .result) ≡ pos (lengthened c .bit-length .result)
 word-is c = word-pos (lengthened c .bit-length .result) (omega (arith, scale-length (scalable (lengthened c))))
 
 cast-binary-exponent : tie.Need-cast-binary-exponent
 cast-binary-exponent c = record { sfits = omega (arith, scale-length (scalable (lengthened c))) }
 
-exponent-fit : (c : tie.After-struct-told4) → SFits w64 (toZ w64 (lengthened c .bit-length .result) -ℤ pos 48)
+exponent-fit : (c : tie.After-value) → SFits w64 (toZ w64 (lengthened c .bit-length .result) -ℤ pos 48)
 exponent-fit c = subst (λ b. SFits w64 (b -ℤ pos 48)) (sym (word-is c)) (exponent-fits (lengthened c .bit-length .result) (scale-length (scalable (lengthened c))))
 
 sub-binary-exponent : tie.Need-sub-binary-exponent
@@ -76,19 +76,18 @@ returns : tie.Need-returns
 unfolding log answer
 returns c =
     let u = c .before in
-    let r = u .before .before .before in
+    let r = u .before in
     let l = lengthened u in
     let t = l .before in
     let s = start t in
     let n = s .args .n in
     let ran = r .run .ensures ∙ ap (runOf n) (begun-is (r .before)) in
-    let x = back (sfits-mag (r .run .result .answer .x) (u .before .struct-told3 .given .0 .1)) ∙ ap (λ (e : State). e .answer .x) ran in
-    let y = back (sfits-mag (r .run .result .answer .y) (u .struct-told4 .given .1 .0 .1)) ∙ ap (λ (e : State). e .answer .y) ran in
+    let value = ap (λ (e : State). e .answer) ran in
     let k = back (exponent-fit u) ∙ (ap (λ b. b -ℤ pos 48) (word-is u ∙ ap pos (length-is l)) ∙ exponent-made (s .pre)) in
     let q = back (sfits-mag (t .before .before .before .turned .result .quadrant) (t .before .struct-told .given .1 .0 .1)) ∙ ap (λ (e : Turn). e .quadrant)
     (t .before .before .before .turned .ensures) in
     let b = back (sfits-mag (c .error-bound .result) (c .error-bound .ok)) ∙ (c .error-bound .ensures ∙ (ap (boundAt n) (x-is t) ∙ bound-made (s .pre))) in
-    λ i. record { x = x i; y = y i; «binary_exponent» = k i; quadrant = q i; «error_bound» = b i }
+    λ i. record { value = value i; «binary_exponent» = k i; quadrant = q i; «error_bound» = b i }
 
 pub accepted-spec : {M : Type 1} → statement M
 accepted-spec = tie.close
