@@ -76,8 +76,9 @@ fn log_record(answer: logarithm::Answer) -> [i64; 6]
 {
     match answer {
         logarithm::Answer::Answered(f) => {
-            let x = f.x;
-            let y = f.y;
+            let value = f.value;
+            let x = value.x;
+            let y = value.y;
             let binary_exponent = f.binary_exponent;
             let quadrant = f.quadrant;
             let error_bound = f.error_bound;

@@ -17,15 +17,15 @@ number-requires c κs = search needs
 returns : tie.Need-returns
 unfolding logRecord
 returns c =
-    let a = c .before .before .before .before .before .before .answer in
+    let a = c .before .before .before .before .before .before .before .answer in
     let f = a .given .0 .0 in
     rw (
       a .given .1,
-      back (sfits-mag (f .x) (c .before .before .before .before .struct-told .given .0 .1)),
-      back (sfits-mag (f .y) (c .before .before .before .struct-told2 .given .1 .0 .1)),
-      back (sfits-mag (f .«binary_exponent») (c .before .before .struct-told3 .given .1 .1 .0 .1)),
-      back (sfits-mag (f .quadrant) (c .before .struct-told4 .given .1 .1 .1 .0 .1)),
-      back (sfits-mag (f .«error_bound») (c .struct-told5 .given .1 .1 .1 .1 .0 .1)),
+      back (sfits-mag (f .value .x) (c .before .before .before .before .struct-told .given .0 .1)),
+      back (sfits-mag (f .value .y) (c .before .before .before .struct-told2 .given .1 .0 .1)),
+      back (sfits-mag (f .«binary_exponent») (c .before .before .struct-told3 .given .1 .0 .1)),
+      back (sfits-mag (f .quadrant) (c .before .struct-told4 .given .1 .1 .0 .1)),
+      back (sfits-mag (f .«error_bound») (c .struct-told5 .given .1 .1 .1 .0 .1)),
     )
 
 returns-2 : tie.Need-returns-2
