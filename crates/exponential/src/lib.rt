@@ -3,7 +3,8 @@ ghost use mathlib.Core.Path.{_≡_};
 ghost use Prim.Native.Nat.{_≤_};
 ghost use lib.ListN.{getD};
 ghost use Rattle.algebra.specs.Gauss.{_-ᵍ_};
-ghost use Rattle.algebra.specs.Parts.{Parts};
+ghost use Rattle.algebra.specs.Parts.{Size, Parts, abs};
+ghost use Rattle.algebra.specs.Larger.{larger};
 ghost use Rattle.algebra.specs.Power.{two};
 ghost use Rattle.point.specs.Point.{gauss, point, digit};
 ghost use Rattle.point.specs.Digit.{Trit};
@@ -60,13 +61,33 @@ fn select(e: Point, n: usize) -> Digit
     }
 }
 
+// The absolute value.
+fn size(x: i64) -> i64
+    requires { ⌜ Size x (two 58) ⌝ }
+    ensures { λ r. ⌜ r ≡ abs x ⌝ }
+{
+    if x < 0 { -x } else { x }
+}
+
+// The larger part in size.
+fn larger_part(p: Point) -> i64
+    requires { ⌜ Parts (gauss p) (two 58) ⌝ }
+    ensures { λ r. ⌜ r ≡ larger (gauss p) ⌝ }
+{
+    let x = p.x;
+    let y = p.y;
+    let a = size(x);
+    let b = size(y);
+    if b < a { a } else { b }
+}
+
 // 8 M / 2^n rounded up, plus 3 n: M is the start's larger part in size.
 fn error_bound(n: usize, s: Point) -> i64
     requires { ⌜ n ≤ 40 ⌝ }
     requires { ⌜ Parts (gauss s) (two 58) ⌝ }
     ensures { λ r. ⌜ r ≡ errorBound n (gauss s) ⌝ }
 {
-    let m = s.larger_part();
+    let m = larger_part(s);
     let down = (-8 * m) >> n;
     let floors = 3 * (n as i64);
     floors - down

@@ -1,7 +1,6 @@
 -- `exponential::error_bound` meets its contract.
 use mathlib.Core.Path.{sym, subst}
 use native.Mathlib.Omega.{arith}
-use Rattle.algebra.specs.Parts.{parts-weaken}
 use Rattle.word.specs.Fits.{back, word-pos}
 use Rattle.exponential.specs.Words.{BoundFits, bound-fits, bound-is}
 use borrow.Author.Needs.{needs}
@@ -12,7 +11,7 @@ fits : (c : tie.After-larger-part) → BoundFits (c .before .args .n) (c .larger
 fits c = subst (λ m. BoundFits (c .before .args .n) m) (sym (c .larger-part .ensures)) (bound-fits (c .before .args .n) (c .before .pre .0) (c .before .pre .1))
 
 larger-part-requires : tie.Need-larger-part-requires
-larger-part-requires c κs = parts-weaken (c .pre .1) (record { le = tt })
+larger-part-requires c κs = search needs
 
 mul-down : tie.Need-mul-down
 mul-down c = let f = fits c in simp (back, f .larger) (f .eight)

@@ -1,9 +1,9 @@
--- `point::size` meets its contract.
+-- `exponential::size` meets its contract.
 use Rattle.algebra.specs.Parts.{abs-bound}
 use Rattle.word.specs.Fits.{back, sfits-size}
 use Rattle.word.specs.Compare.{abs-negative, abs-nonnegative}
-use Rattle.point.proofs.size.Statement.{statement}
-use Rattle.point.proofs.size.Tie as tie
+use Rattle.exponential.proofs.size.Statement.{statement}
+use Rattle.exponential.proofs.size.Tie as tie
 
 sub-result : tie.Need-sub-result
 sub-result c = let s = c .before in simp (back, s .fits .x, abs-negative (s .args .x) (simp (back, s .fits .x) at (c .if1 .taken))) (sfits-size (abs-bound (s .pre)) tt)

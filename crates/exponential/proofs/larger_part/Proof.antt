@@ -1,4 +1,4 @@
--- `point::Point::larger_part` meets its contract.
+-- `exponential::larger_part` meets its contract.
 use mathlib.Core.Path.{_≡_, sym, _∙_}
 use mathlib.Core.Bool.{true, false}
 use lib.Signed.{ltZ}
@@ -7,17 +7,17 @@ use Rattle.algebra.specs.Parts.{abs}
 use Rattle.algebra.specs.Larger.{larger-re, larger-im}
 use Rattle.word.specs.Fits.{back, sfits-mag}
 use Rattle.word.specs.Compare.{ltZ-true, ltZ-false}
 use Rattle.point.specs.Point.{gauss}
-use Rattle.point.proofs.Point.larger_part.Statement.{statement}
-use Rattle.point.proofs.Point.larger_part.Tie as tie
+use Rattle.exponential.proofs.larger_part.Statement.{statement}
+use Rattle.exponential.proofs.larger_part.Tie as tie
 
 -- the two sizes
-sizes : (c : tie.After-size2) → let s = c .before .before .before .before in (c .before .size .result ≡ abs (s .args .self .x)) × (c .size2 .result ≡ abs (s .args .self .y))
+sizes : (c : tie.After-size2) → let s = c .before .before .before .before in (c .before .size .result ≡ abs (s .args .p .x)) × (c .size2 .result ≡ abs (s .args .p .y))
 sizes c =
     let b = c .before in
     let s = b .before .before .before in
-    let x = sfits-mag (s .args .self .x) (b .before .before .struct-told .given .0 .1) in
-    let y = sfits-mag (s .args .self .y) (b .before .struct-told2 .given .1 .0 .1) in
+    let x = sfits-mag (s .args .p .x) (b .before .before .struct-told .given .0 .1) in
+    let y = sfits-mag (s .args .p .y) (b .before .struct-told2 .given .1 .0 .1) in
     (simp (back, x) at (b .size .ensures), simp (back, y) at (c .size2 .ensures))
 
 size-requires : tie.Need-size-requires
@@ -32,7 +32,7 @@ returns c =
     let fa = sfits-mag (b .before .size .result) (b .before .size .ok) in
     let fb = sfits-mag (b .size2 .result) (b .size2 .ok) in
     let e = sizes b in
-    let z = b .before .before .before .before .args .self in
+    let z = b .before .before .before .before .args .p in
     let t : ltZ (abs (z .y)) (abs (z .x)) ≡ true = simp (e .0, e .1) at (simp (back, fa, fb) at (c .if1 .taken)) in
     simp (back, fa) (e .0 ∙ sym (larger-re (gauss z) (ltZ-true t)))
 
@@ -42,7 +42,7 @@ returns-2 c =
     let fa = sfits-mag (b .before .size .result) (b .before .size .ok) in
     let fb = sfits-mag (b .size2 .result) (b .size2 .ok) in
     let e = sizes b in
-    let z = b .before .before .before .before .args .self in
+    let z = b .before .before .before .before .args .p in
     let t : ltZ (abs (z .y)) (abs (z .x)) ≡ false = simp (e .0, e .1) at (simp (back, fa, fb) at (c .if1 .left)) in
     simp (back, fb) (e .1 ∙ sym (larger-im (gauss z) (ltZ-false t)))
 
