@@ -32,7 +32,7 @@ mul-im : tie.Need-mul-im
 mul-im c = let f = facts (start (c .before)) in search needs
 
 mul-im-2 : tie.Need-mul-im-2
-mul-im-2 c = let f = facts (start (c .before)) in search needs
+mul-im-2 c = let f = facts (start (c .before)) in simp (back, f .dy, f .x) (f .dy-x)
 
 add-im : tie.Need-add-im
 add-im c = let f = facts (start (c .before)) in search needs
