@@ -1,5 +1,5 @@
 -- `exponential::larger_part` meets its contract.
-use mathlib.Core.Path.{_≡_, sym, _∙_}
+use mathlib.Core.Path.{_≡_, sym, _∙_, ap}
 use mathlib.Core.Bool.{true, false}
 use lib.Signed.{ltZ}
 use borrow.Author.Needs.{needs}
@@ -18,7 +18,7 @@ sizes c =
     let s = b .before .before .before in
     let x = sfits-mag (s .args .p .x) (b .before .before .struct-told .given .0 .1) in
     let y = sfits-mag (s .args .p .y) (b .before .struct-told2 .given .1 .0 .1) in
-    (simp (back, x) at (b .size .ensures), simp (back, y) at (c .size2 .ensures))
+    (b .size .ensures ∙ ap abs (back x), c .size2 .ensures ∙ ap abs (back y))
 
 size-requires : tie.Need-size-requires
 size-requires c κs = search needs
@@ -34,7 +34,7 @@ returns c =
     let e = sizes b in
     let z = b .before .before .before .before .args .p in
     let t : ltZ (abs (z .y)) (abs (z .x)) ≡ true = simp (e .0, e .1) at (simp (back, fa, fb) at (c .if1 .taken)) in
-    simp (back, fa) (e .0 ∙ sym (larger-re (gauss z) (ltZ-true t)))
+    back fa ∙ (e .0 ∙ sym (larger-re (gauss z) (ltZ-true t)))
 
 returns-2 : tie.Need-returns-2
 returns-2 c =
@@ -44,7 +44,7 @@ returns-2 c =
     let e = sizes b in
     let z = b .before .before .before .before .args .p in
     let t : ltZ (abs (z .y)) (abs (z .x)) ≡ false = simp (e .0, e .1) at (simp (back, fa, fb) at (c .if1 .left)) in
-    simp (back, fb) (e .1 ∙ sym (larger-im (gauss z) (ltZ-false t)))
+    back fb ∙ (e .1 ∙ sym (larger-im (gauss z) (ltZ-false t)))
 
 pub larger-part-spec : {M : Type 1} → statement M
 larger-part-spec = tie.close (tie.spec size-requires size-requires-2 returns returns-2)
