@@ -10,7 +10,6 @@ use native.Mathlib.Omega.{arith}
 use lib.Dec.{T, ltb, ltb→lt, nltb→le}
 use lib.Count.{leadingZeros, leading-top}
 use lib.IntN.{ℤ, pos, negsuc, negℤ, natAbs, _+ℤ_, _-ℤ_, _*ℤ_}
-use lib.Signed.{shrZ}
 use Rattle.algebra.specs.Integer.{ℤR}
 use Rattle.algebra.specs.Gauss.{𝔾, gi, gi-path, ιᵍ, _-ᵍ_, _*ᵍ_}
 use Rattle.algebra.specs.Reify.{ring!, reify}
@@ -163,7 +162,32 @@ up-down F b = ⊎-elim
     (le-or-lt b F)
 
 -- ---- what scaling loses: less than one unit in each part for k > 0, and nothing for k ≤ 0
+-- p is z/d by floor: at most the quotient, and less than one unit below it
+record Floored (d : ℕ) (z p : 𝔾) : Type 0 where
+  re-lo : pos d *ℤ p .re ⩽ z .re
+  re-hi : z .re +ℤ pos 1 ⩽ pos d *ℤ p .re +ℤ pos d
+  im-lo : pos d *ℤ p .im ⩽ z .im
+  im-hi : z .im +ℤ pos 1 ⩽ pos d *ℤ p .im +ℤ pos d
+
 module _ (F : ℕ) (w : 𝔾) where
+  scaled-floor : Floored (down F (bit-length w)) (ιᵍ (pos (up F (bit-length w))) *ᵍ w) (scaled F w)
+  unfolding scaled floorᵍ
+  scaled-floor = record {
+    re-lo = floor-lo d d>0 (z .re);
+    re-hi = floor-hi d d>0 (z .re);
+    im-lo = floor-lo d d>0 (z .im);
+    im-hi = floor-hi d d>0 (z .im);
+  }
+    where
+      d : ℕ
+      d = down F (bit-length w)
+
+      d>0 : 0 < d
+      d>0 = two-pos (bit-length w - F)
+
+      z : 𝔾
+      z = ιᵍ (pos (up F (bit-length w))) *ᵍ w
+
   -- times 2^k
   pub scaled-error : Parts (ιᵍ (pos (up F (bit-length w))) *ᵍ w -ᵍ ιᵍ (pos (down F (bit-length w))) *ᵍ scaled F w) (pos (down F (bit-length w)))
   unfolding scaled
@@ -200,15 +224,15 @@ module _ (u d B h wx wy x y : ℤ) (u≥1 : pos 1 ⩽ u) (d≥1 : pos 1 ⩽ d) (
   }
 
 ranges-suc : (F : ℕ) (w : 𝔾) → Cone w → Scaled (two (suc F)) (scaled (suc F) w)
-unfolding scaled floorᵍ ιᵍ _*ᵍ_
+unfolding ιᵍ _*ᵍ_
 ranges-suc F w c = subst (λ t. Scaled t (scaled (suc F) w)) (sym (two-suc F))
     (ranges (pos u) (pos d) (two b) (two F) (w .re) (w .im) x y (two≥1 (suc F - b)) (two≥1 (b - suc F))
     (ap pos (up-down (suc F) b ∙ ap (λ t. d * t) (pow-succ' 2 F)))
     (length-law w (cone-pos c) .above) (length-law w (cone-pos c) .half) (lin (w .re ∷ w .im ∷ []) (c .lo &< none) (search reify depth 20) tt) (c .hi)
-    (lin (pos u ∷ pos d ∷ w .re ∷ w .im ∷ x ∷ []) (floor-lo d d>0 X & none) (search reify depth 20) tt)
-    (lin (pos u ∷ pos d ∷ w .re ∷ w .im ∷ x ∷ []) (floor-hi d d>0 X & none) (search reify depth 20) tt)
-    (lin (pos u ∷ pos d ∷ w .re ∷ w .im ∷ y ∷ []) (floor-lo d d>0 Y & none) (search reify depth 20) tt)
-    (lin (pos u ∷ pos d ∷ w .re ∷ w .im ∷ y ∷ []) (floor-hi d d>0 Y & none) (search reify depth 20) tt))
+    (lin (pos u ∷ pos d ∷ w .re ∷ w .im ∷ x ∷ []) (f .re-lo & none) (search reify depth 20) tt)
+    (lin (pos u ∷ pos d ∷ w .re ∷ w .im ∷ x ∷ []) (f .re-hi & none) (search reify depth 20) tt)
+    (lin (pos u ∷ pos d ∷ w .re ∷ w .im ∷ y ∷ []) (f .im-lo & none) (search reify depth 20) tt)
+    (lin (pos u ∷ pos d ∷ w .re ∷ w .im ∷ y ∷ []) (f .im-hi & none) (search reify depth 20) tt))
   where
     b : ℕ
     b = bit-length w
@@ -219,20 +243,14 @@ ranges-suc F w c = subst (λ t. Scaled t (scaled (suc F) w)) (sym (two-suc F))
     d : ℕ
     d = down (suc F) b
 
-    d>0 : 0 < d
-    d>0 = two-pos (b - suc F)
-
-    X : ℤ
-    X = pos u *ℤ w .re -ℤ pos 0 *ℤ w .im
-
-    Y : ℤ
-    Y = pos u *ℤ w .im +ℤ pos 0 *ℤ w .re
-
     x : ℤ
-    x = shrZ X d
+    x = scaled (suc F) w .re
 
     y : ℤ
-    y = shrZ Y d
+    y = scaled (suc F) w .im
+
+    f : Floored d (ιᵍ (pos u) *ᵍ w) (scaled (suc F) w)
+    f = scaled-floor (suc F) w
 
 pub scaled-ranges : (F : ℕ) → 1 ≤ F → (w : 𝔾) → Cone w → Scaled (two F) (scaled F w)
 scaled-ranges zero h w c = absurd (not-suc-le-zero h)
