@@ -1,7 +1,14 @@
 -- `exponential::error_bound` meets its contract.
-use mathlib.Core.Path.{sym, subst}
+use mathlib.Core.Path.{_≡_, sym, _∙_, ap, subst}
+use Prim.Native.Nat.{ℕ, _^_, _≤_}
 use native.Mathlib.Omega.{arith}
+use lib.IntN.{ℤ, pos, negsuc, _-ℤ_, _*ℤ_}
+use lib.Signed.{shrZ}
+use mir.Syntax.{w64}
+use mir.Val.{toZ, ofZ}
 use Rattle.word.specs.Fits.{back, word-pos}
+use Rattle.point.specs.Point.{gauss}
+use Rattle.exponential.specs.Drift.{floor-share}
 use Rattle.exponential.specs.Words.{BoundFits, bound-fits, bound-is}
 use borrow.Author.Needs.{needs}
 use Rattle.exponential.proofs.error_bound.Statement.{statement}
@@ -10,6 +17,21 @@ use Rattle.exponential.proofs.error_bound.Tie as tie
 fits : (c : tie.After-larger-part) → BoundFits (c .before .args .n) (c .larger-part .result)
 fits c = subst (λ m. BoundFits (c .before .args .n) m) (sym (c .larger-part .ensures)) (bound-fits (c .before .args .n) (c .before .pre .0) (c .before .pre .1))
 
+-- ---- the contract
+-- the code's words, read back
+abbrev made : ℕ → ℤ → ℤ
+made n m = toZ w64 (ofZ w64 (toZ w64 (ofZ w64 (floor-share *ℤ toZ w64 n)) -ℤ toZ w64 (ofZ w64 (shrZ (toZ w64 (ofZ w64 (negsuc 7 *ℤ toZ w64 (ofZ w64 m)))) (2 ^ n)))))
+
+made-is : (n : ℕ) (m : ℤ) → n ≤ 40 → BoundFits n m → made n m ≡ floor-share *ℤ pos n -ℤ shrZ (negsuc 7 *ℤ m) (2 ^ n)
+made-is n m h f = simp (back, word-pos n (omega arith), f .larger, f .eight, f .down, f .floors, f .bound)
+
+returns : tie.Need-returns
+returns c =
+    let s = c .before in
+    let n = s .args .n in
+    made-is n (c .larger-part .result) (s .pre .0) (fits c) ∙ (ap (λ m. floor-share *ℤ pos n -ℤ shrZ (negsuc 7 *ℤ m) (2 ^ n)) (c .larger-part .ensures) ∙ bound-is n (gauss (s .args .s)))
+
+-- ---- what the operations ask
 larger-part-requires : tie.Need-larger-part-requires
 larger-part-requires c κs = search needs
 
@@ -30,12 +52,6 @@ mul-floors c = rw (word-pos (c .before .args .n) (omega arith)) (fits c .floors)
 
 sub-result : tie.Need-sub-result
 sub-result c = let f = fits c in simp (back, word-pos (c .before .args .n) (omega arith), f .larger, f .eight, f .down, f .floors) (f .bound)
-
-returns : tie.Need-returns
-returns c =
-    let f = fits c in
-    simp (back, word-pos (c .before .args .n) (omega arith), f .larger, f .eight, f .down, f .floors, f .bound)
-    (rw (c .larger-part .ensures) (bound-is (c .before .args .n) _))
 
 pub error-bound-spec : {M : Type 1} → statement M
 error-bound-spec =

@@ -7,6 +7,15 @@ use Rattle.exponential.specs.Words.{less-fits}
 use Rattle.exponential.proofs.less.Statement.{statement}
 use Rattle.exponential.proofs.less.Tie as tie
 
+-- ---- the contract
+returns : tie.Need-returns
+unfolding _+ᵍ_ negᵍ
+returns c =
+    let s = c .before .before .before .before .before in
+    let f = less-fits (s .pre .1 .0) (s .pre .1 .1) in
+    rw (place-word (s .pre .0)) (simp (back, f .x, f .y, f .re, f .im, f .new-x, f .new-y))
+
+-- ---- what the operations ask
 add-at : tie.Need-add-at
 add-at c = next-fits (c .before .before .pre .0)
 
@@ -30,13 +39,6 @@ sub-t16 c =
     let s = c .before .before .before .before .before in
     let f = less-fits (s .pre .1 .0) (s .pre .1 .1) in
     rw (place-word (s .pre .0)) (simp (back, f .y, f .im) (f .new-y))
-
-returns : tie.Need-returns
-unfolding _+ᵍ_ negᵍ
-returns c =
-    let s = c .before .before .before .before .before in
-    let f = less-fits (s .pre .1 .0) (s .pre .1 .1) in
-    rw (place-word (s .pre .0)) (simp (back, f .x, f .y, f .re, f .im, f .new-x, f .new-y))
 
 pub less-spec : {M : Type 1} → statement M
 less-spec =

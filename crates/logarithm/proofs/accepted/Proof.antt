@@ -38,40 +38,16 @@ scalable c = subst₂ ScalePre (sym (turned-is (c .before))) (sym (length-is c))
 begun-is : (c : tie.After-begun) → c .begun .result ≡ begunOf (point (turned (gauss (start (c .before .before) .args .p))))
 begun-is c = c .begun .ensures ∙ ap begunOf (turned-is (c .before .before))
 
--- ---- the needs
-turned-requires : tie.Need-turned-requires
-turned-requires c κs = turn-ok (c .pre)
-
-bit-length-requires : tie.Need-bit-length-requires
-bit-length-requires c κs = subst (λ x. pos 1 ⩽ x) (sym (x-is c)) (turned-pos (start c .pre))
-
-begun-requires : tie.Need-begun-requires
-begun-requires c κs = scalable c
-
-run-requires : tie.Need-run-requires
-run-requires c κs =
-    let s = start (c .before .before) in
-    let n = count-ok (s .pre) in
-    subst (RunPre (s .args .n)) (sym (c .begun .ensures)) (run-ok (scalable (c .before)) (s .args .n) (n .0) (n .1))
-
 abbrev lengthened : tie.After-value → tie.After-bit-length
 lengthened c = c .before .before .before
 
 word-is : (c : tie.After-value) → toZ w64 (lengthened c .bit-length .result) ≡ pos (lengthened c .bit-length .result)
 word-is c = word-pos (lengthened c .bit-length .result) (omega (arith, scale-length (scalable (lengthened c))))
 
-cast-binary-exponent : tie.Need-cast-binary-exponent
-cast-binary-exponent c = record { sfits = omega (arith, scale-length (scalable (lengthened c))) }
-
 exponent-fit : (c : tie.After-value) → SFits w64 (toZ w64 (lengthened c .bit-length .result) -ℤ pos 48)
 exponent-fit c = subst (λ b. SFits w64 (b -ℤ pos 48)) (sym (word-is c)) (exponent-fits (lengthened c .bit-length .result) (scale-length (scalable (lengthened c))))
 
-sub-binary-exponent : tie.Need-sub-binary-exponent
-sub-binary-exponent c = exponent-fit c
-
-error-bound-requires : tie.Need-error-bound-requires
-error-bound-requires c κs = let t = lengthened c .before in subst (BoundPre (start t .args .n)) (sym (x-is t)) (bound-ok (start t .pre))
-
+-- ---- the contract
 returns : tie.Need-returns
 unfolding log answer
 returns c =
@@ -88,6 +64,31 @@ returns c =
     (t .before .before .before .turned .ensures) in
     let b = back (sfits-mag (c .error-bound .result) (c .error-bound .ok)) ∙ (c .error-bound .ensures ∙ (ap (boundAt n) (x-is t) ∙ bound-made (s .pre))) in
     λ i. record { value = value i; «binary_exponent» = k i; quadrant = q i; «error_bound» = b i }
+
+-- ---- the needs
+turned-requires : tie.Need-turned-requires
+turned-requires c κs = turn-ok (c .pre)
+
+bit-length-requires : tie.Need-bit-length-requires
+bit-length-requires c κs = subst (λ x. pos 1 ⩽ x) (sym (x-is c)) (turned-pos (start c .pre))
+
+begun-requires : tie.Need-begun-requires
+begun-requires c κs = scalable c
+
+run-requires : tie.Need-run-requires
+run-requires c κs =
+    let s = start (c .before .before) in
+    let n = count-ok (s .pre) in
+    subst (RunPre (s .args .n)) (sym (c .begun .ensures)) (run-ok (scalable (c .before)) (s .args .n) (n .0) (n .1))
+
+cast-binary-exponent : tie.Need-cast-binary-exponent
+cast-binary-exponent c = record { sfits = omega (arith, scale-length (scalable (lengthened c))) }
+
+sub-binary-exponent : tie.Need-sub-binary-exponent
+sub-binary-exponent c = exponent-fit c
+
+error-bound-requires : tie.Need-error-bound-requires
+error-bound-requires c κs = let t = lengthened c .before in subst (BoundPre (start t .args .n)) (sym (x-is t)) (bound-ok (start t .pre))
 
 pub accepted-spec : {M : Type 1} → statement M
 accepted-spec = tie.close

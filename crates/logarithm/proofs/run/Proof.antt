@@ -26,22 +26,6 @@ Inv-loop n v₀ a₀ k₀ v a k = (k ≤ n) × After (record { point = v₀; ans
 abbrev μ-loop : tie.MeasureT-loop
 μ-loop n v₀ a₀ k₀ v a k = n - k
 
-loop-holds : tie.Need-loop-holds Inv-loop μ-loop
-unfolding point-at answer-at
-loop-holds c = (c .before .before .pre .least, record { least = omega arith; point = refl; answer = refl })
-
-add-k : tie.Need-add-k Inv-loop μ-loop
-add-k c = omega arith
-
-selected-requires : tie.Need-selected-requires Inv-loop μ-loop
-selected-requires c κs = let l = c .before in rw (add-one (l .loop .k)) (select-ok (l .before .before .before .pre) (l .loop .inv .1) (omega arith))
-
-row-requires : tie.Need-row-requires Inv-loop μ-loop
-row-requires c κs = tt
-
-pick-requires : tie.Need-pick-requires Inv-loop μ-loop
-pick-requires c κs = tt
-
 -- the digit of the step, and the entry that was picked
 chosen : (c : tie.After-selected Inv-loop μ-loop) → let l = c .before .before in c .selected .result ≡ digit (select 48 (suc (l .loop .k)) (gauss (l .loop .v)))
 chosen c = let l = c .before .before in c .selected .ensures ∙ ap (λ k. digit (select 48 k (gauss (l .loop .v)))) (add-one (l .loop .k))
@@ -57,6 +41,22 @@ picked c =
     let dy = back (sfits-mag (s .selected .result .dy) (r .before .struct-told2 .given .1 .0 .1)) ∙ ap (λ (d : Digit). d .dy) (chosen s) in
     let row = r .row .ensures .0 ∙ ap₂ stepRow (add-one k) dx in
     c .pick .ensures ∙ (ap₂ (λ x y. byDigit x none y) row dy ∙ row-entry (suc k) _ _)
+
+loop-holds : tie.Need-loop-holds Inv-loop μ-loop
+unfolding point-at answer-at
+loop-holds c = (c .before .before .pre .least, record { least = omega arith; point = refl; answer = refl })
+
+add-k : tie.Need-add-k Inv-loop μ-loop
+add-k c = omega arith
+
+selected-requires : tie.Need-selected-requires Inv-loop μ-loop
+selected-requires c κs = let l = c .before in rw (add-one (l .loop .k)) (select-ok (l .before .before .before .pre) (l .loop .inv .1) (omega arith))
+
+row-requires : tie.Need-row-requires Inv-loop μ-loop
+row-requires c κs = tt
+
+pick-requires : tie.Need-pick-requires Inv-loop μ-loop
+pick-requires c κs = tt
 
 step-requires : tie.Need-step-requires Inv-loop μ-loop
 step-requires c κs =

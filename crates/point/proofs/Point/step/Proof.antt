@@ -13,36 +13,7 @@ facts s = step-fits (s .args .n) (s .pre .1 .0) (s .pre .0)
 abbrev start : tie.After-struct-told4 → tie.Start
 start c = c .before .before .before .before
 
-mul-re : tie.Need-mul-re
-mul-re c = let f = facts (start c) in search needs
-
-mul-re-2 : tie.Need-mul-re-2
-mul-re-2 c = let f = facts (start c) in search needs
-
-sub-re : tie.Need-sub-re
-sub-re c = let f = facts (start c) in search needs
-
-rounded-requires : tie.Need-rounded-requires
-rounded-requires c κs = search needs
-
-add-new-x : tie.Need-add-new-x
-add-new-x c = let f = facts (start (c .before)) in simp (back, c .rounded .ensures, f .x, f .y, f .dx, f .dy, f .dx-x, f .dy-y, f .re, f .quotient-re) (f .new-x)
-
-mul-im : tie.Need-mul-im
-mul-im c = let f = facts (start (c .before)) in search needs
-
-mul-im-2 : tie.Need-mul-im-2
-mul-im-2 c = let f = facts (start (c .before)) in simp (back, f .dy, f .x) (f .dy-x)
-
-add-im : tie.Need-add-im
-add-im c = let f = facts (start (c .before)) in search needs
-
-rounded-requires-2 : tie.Need-rounded-requires-2
-rounded-requires-2 c κs = search needs
-
-add-new-y : tie.Need-add-new-y
-add-new-y c = let f = facts (start (c .before .before)) in simp (back, c .rounded2 .ensures, f .x, f .y, f .dx, f .dy, f .dx-y, f .dy-x, f .im, f .quotient-im) (f .new-y)
-
+-- ---- the contract
 returns : tie.Need-returns
 unfolding step
 returns c =
@@ -66,6 +37,37 @@ returns c =
       f .new-x,
       f .new-y,
     )
+
+-- ---- what the operations ask
+mul-re : tie.Need-mul-re
+mul-re c = let f = facts (start c) in search needs
+
+mul-re-2 : tie.Need-mul-re-2
+mul-re-2 c = let f = facts (start c) in search needs
+
+sub-re : tie.Need-sub-re
+sub-re c = let f = facts (start c) in search needs
+
+rounded-requires : tie.Need-rounded-requires
+rounded-requires c κs = search needs
+
+add-new-x : tie.Need-add-new-x
+add-new-x c = let f = facts (start (c .before)) in simp (back, c .rounded .ensures, f .x, f .y, f .dx, f .dy, f .dx-x, f .dy-y, f .re, f .quotient-re) (f .new-x)
+
+mul-im : tie.Need-mul-im
+mul-im c = let f = facts (start (c .before)) in search needs
+
+mul-im-2 : tie.Need-mul-im-2
+mul-im-2 c = let f = facts (start (c .before)) in search needs
+
+add-im : tie.Need-add-im
+add-im c = let f = facts (start (c .before)) in search needs
+
+rounded-requires-2 : tie.Need-rounded-requires-2
+rounded-requires-2 c κs = search needs
+
+add-new-y : tie.Need-add-new-y
+add-new-y c = let f = facts (start (c .before .before)) in simp (back, c .rounded2 .ensures, f .x, f .y, f .dx, f .dy, f .dx-y, f .dy-x, f .im, f .quotient-im) (f .new-y)
 
 pub step-spec : {M : Type 1} → statement M
 step-spec =
