@@ -1,5 +1,5 @@
 -- Bytes parted by a mark: the fields of a line, the lines of a sheet; and bytes compared with a word.
-use mathlib.Core.Path.{_≡_, refl, ap, _∙_}
+use mathlib.Core.Path.{_≡_, refl, sym, ap, _∙_}
 use mathlib.Core.Bool.{Bool, true, false, cond}
 use mathlib.Core.List.{List, [], _∷_, _++_}
 use Prim.Native.Nat.{ℕ, suc, _+_, _≤_, _<_}
@@ -82,6 +82,9 @@ pub some-field : (l : List ℕ) (at : ℕ) → at ≤ length l → Field (fields
 some-field l at h = rw (le-ltb (length l) at h) (split-some 9 [] (drop at l))
 
 -- ---- bytes compared one by one
+pub same-word : (f : List ℕ) {w v : List ℕ} {b : Bool} → b ≡ sameBytes f w → w ≡ v → sameBytes f v ≡ b
+same-word f e h = ap (sameBytes f) (sym h) ∙ sym e
+
 pub other-length : (xs ys : List ℕ) → (length xs ≡ length ys → ⊥) → sameBytes xs ys ≡ false
 unfolding sameBytes
 other-length [] [] n = absurd (n refl)

@@ -1,5 +1,6 @@
 -- `controller::hand_over` meets its contract: 6 first, then the record.
 use mathlib.Core.Path.{_≡_, refl}
+use native.Mathlib.Omega.{arith}
 use borrow.Author.Tests.{lt-ltb, le-ltb}
 use lib.ListN.{length}
 use Rattle.word.specs.Fits.{back, sfits-mag}
@@ -8,7 +9,7 @@ use Rattle.controller.proofs.hand_over.Statement.{statement}
 use Rattle.controller.proofs.hand_over.Tie as tie
 
 returns : tie.Need-returns
-returns c = rw (lt-ltb _ _ (c .if1 .taken)) (refl, refl)
+returns c = rw (lt-ltb (length (c .before .before .args .out .now)) 48 (omega arith)) (refl, refl)
 
 slice-aggregate-put-numbers : tie.Need-slice-aggregate-put-numbers
 slice-aggregate-put-numbers c = search needs

@@ -1,5 +1,6 @@
 -- `text::answer_line` meets its contract: 6, then 5, then the operation's own.
 use mathlib.Core.Path.{sym, _∙_}
+use native.Mathlib.Omega.{arith}
 use Rattle.word.specs.Fits.{back, sfits-mag}
 use Rattle.text.specs.Answer.{replyOf}
 use Rattle.text.specs.Call.{line-serial, short-buffer, called}
@@ -8,7 +9,7 @@ use Rattle.text.proofs.answer_line.Statement.{statement}
 use Rattle.text.proofs.answer_line.Tie as tie
 
 returns : tie.Need-returns
-returns c = short-buffer (c .before .before .before .args .line .now) (c .before .before .before .args .out .now) (c .if1 .taken)
+returns c = short-buffer (c .before .before .before .args .line .now) (c .before .before .before .args .out .now) (omega arith)
 
 read-line-requires : tie.Need-read-line-requires
 read-line-requires c κs = search needs

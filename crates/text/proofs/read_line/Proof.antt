@@ -1,5 +1,5 @@
 -- `text::read_line` meets its contract: the serial, the kind, and the numbers that it asks for.
-use mathlib.Core.Path.{_≡_, ap, sym, _∙_}
+use mathlib.Core.Path.{_≡_, refl, ap, sym, _∙_}
 use mathlib.Core.Bool.{cond}
 use mathlib.Core.List.{List}
 use Prim.Native.Nat.{ℕ, _+_}
@@ -10,8 +10,8 @@ use mir.Val.{SFits}
 use Rattle.algebra.specs.Order.{_⩽_, _⋖_}
 use Rattle.word.specs.Fits.{back, sfits-mag}
 use Rattle.word.specs.Compare.{ltZ-true, ltZ-false, between, is-between, below-between, above-between}
-use Rattle.text.specs.Fields.{fieldsAt}
-use Rattle.text.specs.Line.{readLine, serialLine, kindLine}
+use Rattle.text.specs.Fields.{fieldsAt, sameBytes, same-word}
+use Rattle.text.specs.Line.{EXP, LOG, readLine, serialLine, kindLine}
 use Rattle.text.specs.Parse.{serial-field, kind-missing, kind-field, byKind}
 use Rattle.text.specs.declared.Line.the-variants.{Malformed}
 use borrow.Author.Needs.{needs}
@@ -56,8 +56,18 @@ module _ (c : tie.After-field-end2) where
   abbrev told : tie.After-known-told
   told = c .before .before .before .before
 
-  words : readLine (line told) ≡ byKind (serial told) (slice (next told) (c .field-end2 .result) (line told)) (fieldsAt (line told) (c .field-end2 .result + 1))
+  abbrev kind : List ℕ
+  kind = slice (next told) (c .field-end2 .result) (line told)
+
+  words : readLine (line told) ≡ byKind (serial told) kind (fieldsAt (line told) (c .field-end2 .result + 1))
   words = kinds (c .before .before) ∙ kind-field (serial told) (c .before .if3 .left) (c .field-end2 .ensures)
+
+-- which of the two words it is
+is-exp : (c : tie.After-is-word) → sameBytes (kind (c .before .before)) EXP ≡ c .is-word .result
+is-exp c = same-word (kind (c .before .before)) (c .is-word .ensures) refl
+
+is-log : (c : tie.After-is-word2) → sameBytes (kind (c .before .before .before .before .before)) LOG ≡ c .is-word2 .result
+is-log c = same-word (kind (c .before .before .before .before .before)) (c .is-word2 .ensures) refl
 
 field-end-requires : tie.Need-field-end-requires
 field-end-requires c κs = search needs
@@ -113,7 +123,7 @@ returns-5 : tie.Need-returns-5
 returns-5 c =
     let w = c .before .before in
     let f = w .before .before in
-    rw (words f, sym (w .is-word .ensures) ∙ c .before .if4 .taken) (rw (back (fits (told f))) at (c .exp-line .ensures))
+    rw (words f, is-exp w ∙ c .before .if4 .taken) (rw (back (fits (told f))) at (c .exp-line .ensures))
 
 slice-aggregate-is-word-2 : tie.Need-slice-aggregate-is-word-2
 slice-aggregate-is-word-2 c = search needs
@@ -132,7 +142,7 @@ returns-6 c =
     let w = c .before .before in
     let no = w .before .before in
     let f = no .before .before .before in
-    rw (words f, sym (no .before .is-word .ensures) ∙ no .if4 .left, sym (w .is-word2 .ensures) ∙ c .before .if5 .taken)
+    rw (words f, is-exp (no .before) ∙ no .if4 .left, is-log w ∙ c .before .if5 .taken)
     (rw (back (fits (told f))) at (c .log-line .ensures))
 
 returns-7 : tie.Need-returns-7
@@ -140,7 +150,7 @@ returns-7 c =
     let w = c .before in
     let no = w .before .before in
     let f = no .before .before .before in
-    rw (words f, sym (no .before .is-word .ensures) ∙ no .if4 .left, sym (w .is-word2 .ensures) ∙ c .if5 .left)
+    rw (words f, is-exp (no .before) ∙ no .if4 .left, is-log w ∙ c .if5 .left)
 
 pub read-line-spec : {M : Type 1} → statement M
 read-line-spec =

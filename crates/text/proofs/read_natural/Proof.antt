@@ -43,12 +43,12 @@ add-if3 c = omega arith
 returns-2 : tie.Need-returns-2 Inv-loop μ-loop
 returns-2 c =
     let a = c .before .before .before .before in
-    sym (read-lead (a .args .s .now) (a .args .from) (a .args .to) (omega arith) (a .pre .1) (c .before .if2 .taken) (c .if3 .taken))
+    sym (read-lead (a .args .s .now) (a .args .from) (a .args .to) (omega arith) (a .pre .1) (c .before .if2 .taken) (omega arith))
 
 returns-3 : tie.Need-returns-3 Inv-loop μ-loop
 returns-3 c =
     let a = c .before .before .before .before in
-    sym (read-zero (a .args .s .now) (a .args .from) (a .args .to) (omega arith) (a .pre .1) (c .before .if2 .taken) (c .if3 .left))
+    sym (read-zero (a .args .s .now) (a .args .from) (a .args .to) (omega arith) (a .pre .1) (c .before .if2 .taken) (omega arith))
 
 loop-holds : tie.Need-loop-holds Inv-loop μ-loop
 loop-holds c =
@@ -96,13 +96,13 @@ returns-7 : tie.Need-returns-7 Inv-loop μ-loop
 returns-7 c =
     let l = c .before .before in
     let a = l .before .before .before .before in
-    rw (value-end (a .args .s .now) (l .loop .i) (a .args .to) (l .loop .acc) (omega arith), le-leb _ _ (c .if7 .taken)) at (l .loop .inv .2)
+    rw (value-end (a .args .s .now) (l .loop .i) (a .args .to) (l .loop .acc) (omega arith), le-leb (l .loop .acc) (2 ^ 63) (omega arith)) at (l .loop .inv .2)
 
 returns-8 : tie.Need-returns-8 Inv-loop μ-loop
 returns-8 c =
     let l = c .before .before in
     let a = l .before .before .before .before in
-    rw (value-end (a .args .s .now) (l .loop .i) (a .args .to) (l .loop .acc) (omega arith), lt-leb _ _ (c .if7 .left)) at (l .loop .inv .2)
+    rw (value-end (a .args .s .now) (l .loop .i) (a .args .to) (l .loop .acc) (omega arith), lt-leb (l .loop .acc) (2 ^ 63) (omega arith)) at (l .loop .inv .2)
 
 pub read-natural-spec : {M : Type 1} → statement M
 read-natural-spec =
