@@ -158,11 +158,11 @@ pub fn finish(h: Held, out: &mut [u8]) -> usize
     ensures count { λ r. ⌜ r ≡ length (ifRoom (now (out .entry)) (last (line h))) ⌝ }
     ensures bytes { λ r. ⌜ now (out .exit) ≡ ifRoom (now (out .entry)) (last (line h)) ++ drop r (now (out .entry)) ⌝ }
 {
-    if out.len() < 128 {
-        return 0;
+    if 128 <= out.len() {
+        if h.len == 0 {
+            return 0;
+        }
+        return answer_held(h, out);
     }
-    if h.len == 0 {
-        return 0;
-    }
-    answer_held(h, out)
+    0
 }

@@ -1,4 +1,5 @@
 -- `controller::exp_record` meets its contract.
+use mathlib.Core.Path.{refl}
 use Rattle.word.specs.Fits.{back, sfits-mag}
 use Rattle.exponential.specs.Answer.{expRecord}
 use borrow.Author.Needs.{needs}
@@ -25,6 +26,7 @@ returns c =
       back (sfits-mag (f .value .y) (c .before .struct-told2 .given .1 .0 .1)),
       back (sfits-mag (f .«error_bound») (c .struct-told3 .given .1 .0 .1)),
     )
+    refl
 
 returns-2 : tie.Need-returns-2
 unfolding expRecord

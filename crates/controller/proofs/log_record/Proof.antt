@@ -1,4 +1,5 @@
 -- `controller::log_record` meets its contract.
+use mathlib.Core.Path.{refl}
 use Rattle.word.specs.Fits.{back, sfits-mag}
 use Rattle.logarithm.specs.Answer.{logRecord}
 use borrow.Author.Needs.{needs}
@@ -27,6 +28,7 @@ returns c =
       back (sfits-mag (f .quadrant) (c .before .struct-told4 .given .1 .1 .0 .1)),
       back (sfits-mag (f .«error_bound») (c .struct-told5 .given .1 .1 .1 .0 .1)),
     )
+    refl
 
 returns-2 : tie.Need-returns-2
 unfolding logRecord

@@ -9,12 +9,10 @@ use Rattle.stream.proofs.finish.Statement.{statement}
 use Rattle.stream.proofs.finish.Tie as tie
 
 returns : tie.Need-returns
-returns c = rw (lt-ltb _ _ (c .if1 .taken)) (refl, refl)
-
-returns-2 : tie.Need-returns-2
-returns-2 c =
-    let h = c .before .before .before .before .args .h in
-    rw (le-ltb _ _ (c .before .before .if1 .left), last-none (h .bytes) (h .len) (c .if2 .taken)) (refl, refl)
+returns c =
+    let s = c .before .before .before .before in
+    let h = s .args .h in
+    rw (le-ltb (length (s .args .out .now)) 128 (omega arith), last-none (h .bytes) (h .len) (c .if2 .taken)) (refl, refl)
 
 answer-held-requires : tie.Need-answer-held-requires
 answer-held-requires c κs = search needs
@@ -22,15 +20,18 @@ answer-held-requires c κs = search needs
 same-length : tie.Need-same-length
 same-length c = search needs
 
-returns-3 : tie.Need-returns-3
-returns-3 c =
+returns-2 : tie.Need-returns-2
+returns-2 c =
     let a = c .before .before in
     let e = a .before .before in
     let s = e .before .before .before .before in
     let h = s .args .h in
     let n : length (h .bytes) ≡ 117 = search needs in
     let f = a .answer-held .ensures in
-    rw (le-ltb _ _ (e .before .before .if1 .left), last-some (h .bytes) (h .len) (omega arith) (e .if2 .left)) (f .count, f .bytes ∙ rw (f .count))
+    rw (le-ltb (length (s .args .out .now)) 128 (omega arith), last-some (h .bytes) (h .len) (omega arith) (e .if2 .left)) (f .count, f .bytes ∙ rw (f .count))
+
+returns-3 : tie.Need-returns-3
+returns-3 c = rw (lt-ltb (length (c .before .before .args .out .now)) 128 (omega arith)) (refl, refl)
 
 pub finish-spec : {M : Type 1} → statement M
-finish-spec = tie.close (tie.spec returns returns-2 answer-held-requires same-length returns-3)
+finish-spec = tie.close (tie.spec returns answer-held-requires same-length returns-2 returns-3)

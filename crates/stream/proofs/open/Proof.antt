@@ -24,7 +24,7 @@ put : (b : List ℕ) {b′ : List ℕ} {i : ℕ} → i ≡ 7 → sets b′ i (dr
 put b n e = record { bytes = rw n at e; after = n }
 
 returns : tie.Need-returns Inv-loop μ-loop
-returns c = rw (lt-ltb _ _ (c .if1 .taken)) (refl, refl)
+returns c = rw (lt-ltb (length (c .before .args .out .now)) 128 (omega arith)) (refl, refl)
 
 loop-holds : tie.Need-loop-holds Inv-loop μ-loop
 loop-holds c = (omega arith, refl, refl)
@@ -57,7 +57,7 @@ returns-2 c =
     let b = e .before .args .out .now in
     let n : l .loop .i ≡ 7 = omega (arith, c .loop-test .left) in
     let f = to-front (put b n (l .loop .inv .2)) (omega (arith, e .if1 .left)) in
-    rw (le-ltb _ _ (e .if1 .left)) (f .count, f .bytes ∙ ap (λ k. heading ++ drop k b) (sym n))
+    rw (le-ltb (length b) 128 (omega (arith, e .if1 .left))) (f .count, f .bytes ∙ ap (λ k. heading ++ drop k b) (sym n))
 
 pub open-spec : {M : Type 1} → statement M
 open-spec =

@@ -65,7 +65,8 @@ returns-2 c = sym (below (c .before .before) ∙ ap minus (c .enum-told .given .
 returns-3 : tie.Need-returns-3
 returns-3 c =
     let k = c .before .before in
-    sym (below (k .before .before) ∙ (ap minus (k .m .given .1) ∙ rw (c .if3 .taken)))
+    let none : k .m .given .0 .0 ≡ 0 = c .if3 .taken in
+    sym (below (k .before .before) ∙ (ap minus (k .m .given .1) ∙ rw none))
 
 sub-t12 : tie.Need-sub-t12
 sub-t12 c = search needs
