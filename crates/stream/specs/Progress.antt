@@ -6,43 +6,29 @@ use native.Mathlib.Omega.{arith}
 use native.Mathlib.Numerals.{add-one}
 use lib.Dec.{ltb, eqb}
 use lib.ListN.{length, getD, take, drop, take-append-drop, drop-of-length-le}
-use lib.Seq.{slice, take-take, take-suc, drop-cons, length-slice, drop-append-le, length-take-le}
+use lib.Seq.{slice, take-take, take-suc, drop-cons, length-slice}
 use borrow.Author.Tests.{lt-ltb, le-ltb, ne-eqb}
 use Rattle.text.specs.Either.{either}
+use Rattle.text.specs.Find.{Without, Ended, parted}
 use Rattle.text.specs.Put.{Put, nothing, then, to-front}
 use Rattle.stream.specs.Sheet.{answered, said, left, taken}
 use Rattle.stream.specs.Pieces.{left-append, said-append}
 
 -- ---- bytes with no newline among them
-abbrev pub Plain : List ℕ → Type 0
-Plain [] = Unit {0}
-Plain (c ∷ cs) = (c ≡ 10 → ⊥) × Plain cs
-
-pub plain-snoc : (xs : List ℕ) (c : ℕ) → Plain xs → (c ≡ 10 → ⊥) → Plain (xs ++ c ∷ [])
-plain-snoc [] c p n = (n, tt)
-plain-snoc (x ∷ xs) c p n = (p .0, plain-snoc xs c (p .1) n)
-
-left-plain : (xs p : List ℕ) → Plain xs → left p xs ≡ p ++ xs
+left-plain : (xs p : List ℕ) → Without 10 xs → left p xs ≡ p ++ xs
 unfolding left
 left-plain [] p h = sym (append-nil p)
 left-plain (c ∷ xs) p h = rw (ne-eqb c 10 (h .0)) (left-plain xs (p ++ c ∷ []) (h .1) ∙ append-assoc p (c ∷ []) xs)
 
-said-plain : (xs p : List ℕ) → Plain xs → said p xs ≡ []
+said-plain : (xs p : List ℕ) → Without 10 xs → said p xs ≡ []
 unfolding said
 said-plain [] p h = refl
 said-plain (c ∷ xs) p h = rw (ne-eqb c 10 (h .0)) (said-plain xs (p ++ c ∷ []) (h .1))
 
-taken-plain : (xs ys p : List ℕ) (room : ℕ) → Plain xs → taken p (xs ++ ys) room ≡ length xs + taken (p ++ xs) ys room
+taken-plain : (xs ys p : List ℕ) (room : ℕ) → Without 10 xs → taken p (xs ++ ys) room ≡ length xs + taken (p ++ xs) ys room
 unfolding taken
 taken-plain [] ys p room h = rw append-nil (omega arith)
 taken-plain (c ∷ xs) ys p room h = rw (ne-eqb c 10 (h .0)) (ap suc (taken-plain xs ys (p ++ c ∷ []) room (h .1)) ∙ rw append-assoc (omega arith))
-
--- ---- where the line ends that goes on from `from`
-pub record LineEnd (s : List ℕ) (from r : ℕ) : Type 0 where
-  pub low : from ≤ r
-  pub high : r ≤ length s
-  pub plain : Plain (slice from r s)
-  pub mark : r < length s → getD s r 0 ≡ 10
 
 -- ---- with s read up to i behind p, and w bytes of b written
 pub record Reached (p s b b′ q : List ℕ) (i w : ℕ) : Type 0 where
@@ -59,14 +45,9 @@ begin p s b =
     record { high = omega arith; line = refl; wrote = nothing b 0; within = omega arith; rest = rw e (omega arith) }
 
 module _ {p s b b′ q : List ℕ} {i w : ℕ} (f : Reached p s b b′ q i w) where
-  module _ {e : ℕ} (l : LineEnd s i e) where
+  module _ {e : ℕ} (l : Ended 10 s i e) where
     upTo : take e s ≡ take i s ++ slice i e s
     upTo = sym (take-append-drop i (take e s)) ∙ ap (λ (t : List ℕ). t ++ slice i e s) (take-take i e s (l .low))
-
-    from : drop i s ≡ slice i e s ++ drop e s
-    from =
-        let n : i ≤ length (take e s) = rw (length-take-le e s (l .high)) (l .low) in
-        ap (drop i) (sym (take-append-drop e s)) ∙ drop-append-le i (take e s) (drop e s) n
 
     silent : said p (take e s) ≡ said p (take i s)
     silent =
@@ -83,7 +64,7 @@ module _ {p s b b′ q : List ℕ} {i w : ℕ} (f : Reached p s b b′ q i w) wh
               ∙ (left-append (take i s) (slice i e s) p ∙ (ap (λ (t : List ℕ). left t (slice i e s)) (f .line) ∙ left-plain (slice i e s) q (l .plain)));
           wrote = rw silent (f .wrote);
           within = f .within;
-          rest = omega (arith, rw (from, taken-plain (slice i e s) (drop e s) q (length b - w) (l .plain), length-slice i e s (l .high)) at (f .rest), l .low);
+          rest = omega (arith, rw (parted l, taken-plain (slice i e s) (drop e s) q (length b - w) (l .plain), length-slice i e s (l .high)) at (f .rest), l .low);
         }
 
   -- a newline with room: the line is answered

@@ -6,7 +6,7 @@ use native.Mathlib.Omega.{arith}
 use native.Mathlib.Numerals.{add-one}
 use native.Mathlib.Nat.{le-refl}
 use lib.ListN.{length, getD, take, drop, set, length-append, length-drop}
-use lib.Seq.{take-nil, slice, slice-cons, slice-empty, take-suc-set, take-all, length-take-le, take-append-le, drop-length, drop-drop, sets-eq}
+use lib.Seq.{slice, slice-cons, slice-empty, take-suc-set, take-all, length-take-le, take-append-le, drop-length, drop-drop, sets-eq}
 use borrow.Rule.Slice.PartMut.{midOf, putMid, post-is}
 use borrow.Author.Tests.{le-ltb, ne-eqb}
 use Rattle.text.specs.Put.{Put, Front}
@@ -70,18 +70,6 @@ last-some (x ∷ bytes) zero h n = absurd (n refl)
 last-some (x ∷ bytes) (suc len) h n =
     let k : suc (length (take len bytes)) ≡ 0 → ⊥ = λ e. omega arith in
     rw (ne-eqb _ _ k)
-
--- ---- a part of a list, as the machine takes it
-pub part-slice : (from to : ℕ) (s : List ℕ) → from ≤ to → take (to - from) (drop from s) ≡ slice from to s
-part-slice zero to s h = let e : to - 0 ≡ to = omega arith in rw e
-part-slice (suc from) zero s h = absurd (none h)
-  where
-    none : suc from ≤ 0 → ⊥
-    none h = omega arith
-part-slice (suc from) (suc to) [] h = take-nil (suc to - suc from)
-part-slice (suc from) (suc to) (x ∷ s) h =
-    let e : suc to - suc from ≡ to - from = omega arith in
-    rw e (part-slice from to s (omega arith))
 
 -- ---- a line answered from the front of a part of a buffer is answered in the whole
 pub record Answered (p b : List ℕ) (at : ℕ) (b′ : List ℕ) (end : ℕ) : Type 0 where

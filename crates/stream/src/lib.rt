@@ -4,9 +4,8 @@ ghost use mathlib.Core.List.{[], _++_};
 ghost use Prim.Native.Nat.{_+_, _≤_};
 ghost use lib.ListN.{length, take, drop};
 ghost use lib.Seq.{slice};
-ghost use Rattle.text.specs.Put.{Put, Front};
+ghost use Rattle.text.specs.Put.{Front};
 ghost use Rattle.stream.specs.Sheet.{heading, answered, said, left, last, taken, ifRoom};
-ghost use Rattle.stream.specs.Progress.{LineEnd};
 ghost use Rattle.stream.specs.State.{line, Answered};
 
 // The line that has begun, or the first 117 bytes of it, which tell its answer.
@@ -38,21 +37,6 @@ fn count(h: Held) -> usize
 {
     let len = h.len;
     if len < 117 { len } else { 117 }
-}
-
-// Where the line ends that goes on from `from`: its newline, or the end of s.
-fn line_end(s: &[u8], from: usize) -> usize
-    requires { ⌜ from ≤ length (now s) ⌝ }
-    ensures { λ r. ⌜ LineEnd (now (s .entry)) from r ⌝ }
-{
-    let mut i = from;
-    while i < s.len() {
-        if s[i] == 10 {
-            return i;
-        }
-        i = i + 1;
-    }
-    i
 }
 
 // The bytes of s from `from` up to `to` behind those that are held.
@@ -127,7 +111,7 @@ pub fn feed(h: Held, piece: &[u8], out: &mut [u8]) -> Fed
     let mut i: usize = 0;
     let mut written: usize = 0;
     while i < piece.len() {
-        let end = line_end(piece, i);
+        let end = text::find_byte(piece, i, 10);
         if end == piece.len() {
             return Fed {
                 held: extended(held, piece, i, end),

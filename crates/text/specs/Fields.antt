@@ -1,15 +1,16 @@
 -- Bytes parted by a mark: the fields of a line, the lines of a sheet; and bytes compared with a word.
 use mathlib.Core.Path.{_≡_, refl, sym, ap, _∙_}
 use mathlib.Core.Bool.{Bool, true, false, cond}
-use mathlib.Core.List.{List, [], _∷_, _++_}
+use mathlib.Core.List.{List, [], _∷_, _++_, append-nil, append-assoc}
 use Prim.Native.Nat.{ℕ, suc, _+_, _≤_, _<_}
 use native.Mathlib.Omega.{arith}
 use native.Mathlib.Numerals.{add-one}
 use lib.Dec.{ltb, eqb}
-use lib.ListN.{length, getD, take, drop, drop-of-length-le}
-use lib.Seq.{slice, drop-cons, slice-cons, slice-empty, take-suc, drop-append-le, length-take-le}
-use borrow.Author.Tests.{lt-ltb, le-ltb, ne-eqb, eq-eqb}
+use lib.ListN.{length, getD, drop, drop-of-length-le}
+use lib.Seq.{slice, drop-cons, slice-cons, slice-empty}
+use borrow.Author.Tests.{lt-ltb, le-ltb, ltb-true, ltb-false, ne-eqb, eq-eqb}
 use Rattle.text.specs.Either.{either}
+use Rattle.text.specs.Find.{Without, Ended, parted}
 
 -- the parts that a mark parts, the first one behind what was already read of it
 unfoldable pub split : ℕ → List ℕ → List ℕ → List (List ℕ)
@@ -30,42 +31,34 @@ sameBytes [] (y ∷ ys) = false
 sameBytes (x ∷ xs) [] = false
 sameBytes (x ∷ xs) (y ∷ ys) = cond (eqb x y) (sameBytes xs ys) false
 
--- ---- a field ends at r, and the other fields begin behind it
-pub record FieldEnd (l : List ℕ) (from r : ℕ) : Type 0 where
-  pub low : from ≤ r
-  pub high : r ≤ length l
-  pub parts : fields (drop from l) ≡ slice from r l ∷ fieldsAt l (r + 1)
+-- ---- a field ends at the first tab, and the other fields begin behind it
+split-plain : (m : ℕ) (xs ys p : List ℕ) → Without m xs → split m p (xs ++ ys) ≡ split m (p ++ xs) ys
+unfolding split
+split-plain m [] ys p w = rw append-nil
+split-plain m (c ∷ xs) ys p w = rw (ne-eqb c m (w .0)) (split-plain m xs ys (p ++ c ∷ []) (w .1) ∙ rw append-assoc)
 
-pub slice-snoc : (l : List ℕ) (from i : ℕ) → from ≤ i → i < length l → slice from (suc i) l ≡ slice from i l ++ getD l i 0 ∷ []
-slice-snoc l from i h k =
-    let k′ : i ≤ length l = omega arith in
-    let n : from ≤ length (take i l) = rw (length-take-le i l) h in
-    ap (drop from) (take-suc l i 0 k) ∙ drop-append-le from (take i l) (getD l i 0 ∷ []) n
+pub field-parts : {l : List ℕ} {from r : ℕ} → Ended 9 l from r → fields (drop from l) ≡ slice from r l ∷ fieldsAt l (r + 1)
+unfolding split
+field-parts {l} {from} {r} f =
+    ap fields (parted f) ∙ (split-plain 9 (slice from r l) (drop r l) [] (f .plain)
+    ∙ either (ltb r (length l)) (λ e. at-mark (ltb-true r (length l) e)) (λ e. at-end (ltb-false r (length l) e)))
+  where
+    at-mark : r < length l → split 9 (slice from r l) (drop r l) ≡ slice from r l ∷ fieldsAt l (r + 1)
+    at-mark h =
+        let b : suc r ≤ length l = omega arith in
+        rw (add-one, drop-cons l r 0 h, eq-eqb _ _ (f .mark h), le-ltb _ _ b)
 
-module _ (l : List ℕ) (from i : ℕ) (h : from ≤ i) where
-  pub at-mark : i < length l → getD l i 0 ≡ 9 → split 9 (slice from i l) (drop i l) ≡ slice from i l ∷ fieldsAt l (i + 1)
-  unfolding split
-  at-mark k e =
-      let b : suc i ≤ length l = omega arith in
-      rw (add-one, drop-cons l i 0, eq-eqb _ _ e, le-ltb _ _ b)
-
-  pub at-other : i < length l → (getD l i 0 ≡ 9 → ⊥) → split 9 (slice from i l) (drop i l) ≡ split 9 (slice from (i + 1) l) (drop (i + 1) l)
-  unfolding split
-  at-other k n = rw (add-one, drop-cons l i 0, ne-eqb _ _ n, slice-snoc l from i h k)
-
-  pub at-end : i ≡ length l → split 9 (slice from i l) (drop i l) ≡ slice from i l ∷ fieldsAt l (i + 1)
-  unfolding split
-  at-end e =
-      let b : length l ≤ i = omega arith in
-      let b′ : length l < suc i = omega arith in
-      rw (add-one, drop-of-length-le l b, lt-ltb _ _ b′)
+    at-end : length l ≤ r → split 9 (slice from r l) (drop r l) ≡ slice from r l ∷ fieldsAt l (r + 1)
+    at-end h =
+        let b : length l < suc r = omega arith in
+        rw (add-one, drop-of-length-le l h, lt-ltb _ _ b)
 
 -- ---- the fields from a place on: none from behind the end, else one and the others
 pub no-field : (l : List ℕ) (at : ℕ) → length l < at → fieldsAt l at ≡ []
 no-field l at h = rw (lt-ltb _ _ h)
 
-pub first-field : {l : List ℕ} {at e : ℕ} → at ≤ length l → FieldEnd l at e → fieldsAt l at ≡ slice at e l ∷ fieldsAt l (e + 1)
-first-field {l} {at} h f = rw (le-ltb (length l) at h) (f .parts)
+pub first-field : {l : List ℕ} {at e : ℕ} → at ≤ length l → Ended 9 l at e → fieldsAt l at ≡ slice at e l ∷ fieldsAt l (e + 1)
+first-field {l} {at} h f = rw (le-ltb (length l) at h) (field-parts f)
 
 pub record Field (fs : List (List ℕ)) : Type 0 where
   pub first : List ℕ

@@ -5,6 +5,7 @@ pub mod Decimal
 pub mod Written
 pub mod Read
 pub mod Scan
+pub mod Find
 pub mod Fields
 pub mod Line
 pub mod Longest

@@ -9,16 +9,17 @@ use lib.IntN.{ℤ}
 use lib.ListN.{length, take, set}
 use lib.Seq.{slice, take-suc-set, take-all}
 use Rattle.text.specs.Decimal.{readNumber}
-use Rattle.text.specs.Fields.{sameBytes, fieldsAt, FieldEnd, no-field, first-field, some-field}
+use Rattle.text.specs.Find.{Ended}
+use Rattle.text.specs.Fields.{sameBytes, fieldsAt, field-parts, no-field, first-field, some-field}
 use Rattle.text.specs.Line.{EXP, LOG, Numbers, are, none, inFront, numbers, formed, expOf, logOf, kindLine, serialLine, lineOf, readLine}
 use Rattle.text.specs.declared.Number.the-variants as num
 use Rattle.text.specs.declared.Line.{Line}
 use Rattle.text.specs.declared.Line.the-variants.{Malformed}
 
 -- ---- the first two fields
-pub serial-field : {l : List ℕ} {e : ℕ} → FieldEnd l 0 e → readLine l ≡ serialLine (readNumber (slice 0 e l)) (fieldsAt l (e + 1))
+pub serial-field : {l : List ℕ} {e : ℕ} → Ended 9 l 0 e → readLine l ≡ serialLine (readNumber (slice 0 e l)) (fieldsAt l (e + 1))
 unfolding readLine lineOf
-serial-field f = rw (f .parts)
+serial-field f = rw (field-parts f)
 
 pub kind-missing : (serial : ℤ) (l : List ℕ) (at : ℕ) → length l < at → kindLine serial (fieldsAt l at) ≡ Malformed
 unfolding kindLine
@@ -28,7 +29,7 @@ kind-missing serial l at h = rw (no-field l at h)
 abbrev pub byKind : ℤ → List ℕ → List (List ℕ) → Line
 byKind serial f fs = cond (sameBytes f EXP) (formed (numbers 5 fs) (expOf serial)) (cond (sameBytes f LOG) (formed (numbers 3 fs) (logOf serial)) Malformed)
 
-pub kind-field : (serial : ℤ) {l : List ℕ} {at e : ℕ} → at ≤ length l → FieldEnd l at e →
+pub kind-field : (serial : ℤ) {l : List ℕ} {at e : ℕ} → at ≤ length l → Ended 9 l at e →
     kindLine serial (fieldsAt l at) ≡ byKind serial (slice at e l) (fieldsAt l (e + 1))
 unfolding kindLine
 kind-field serial h f = rw (first-field h f)
@@ -65,7 +66,7 @@ module _ (m i : ℕ) (h : i < m) where
     unfolding behind numbers
     field-missing k = rw (no-field l next k, one-left)
 
-    module _ (k : next ≤ length l) (e : ℕ) (f : FieldEnd l next e) where
+    module _ (k : next ≤ length l) (e : ℕ) (f : Ended 9 l next e) where
       pub not-number : readNumber (slice next e l) ≡ num.Not → behind p (numbers (m - i) (fieldsAt l next)) ≡ none
       unfolding behind numbers
       not-number n = rw (first-field k f, one-left, n)
@@ -76,7 +77,7 @@ module _ (m i : ℕ) (h : i < m) where
       number-read z n = rw (first-field k f, one-left, n) (behind-front p z (numbers (m - suc i) (fieldsAt l (e + 1))))
 
 -- the number goes to its place
-pub number-stored : (l : List ℕ) (into : List ℤ) (m i next e : ℕ) (z : ℤ) → i < m → length into ≡ m → next ≤ length l → FieldEnd l next e →
+pub number-stored : (l : List ℕ) (into : List ℤ) (m i next e : ℕ) (z : ℤ) → i < m → length into ≡ m → next ≤ length l → Ended 9 l next e →
     readNumber (slice next e l) ≡ num.Is z → behind (take i into) (numbers (m - i) (fieldsAt l next))
     ≡ behind (take (i + 1) (set into i z)) (numbers (m - (i + 1)) (fieldsAt l (e + 1)))
 number-stored l into m i next e z h n k f r =

@@ -7,7 +7,8 @@ ghost use lib.ListN.{length};
 ghost use lib.Seq.{slice};
 ghost use Rattle.text.specs.Put.{Put, Front};
 ghost use Rattle.text.specs.Decimal.{showNatural, showNumber, readNatural, readNumber};
-ghost use Rattle.text.specs.Fields.{FieldEnd, fieldsAt, sameBytes};
+ghost use Rattle.text.specs.Find.{findByte};
+ghost use Rattle.text.specs.Fields.{fieldsAt, sameBytes};
 ghost use Rattle.text.specs.Line.{IsSerial, numbers, are, none, formed, expOf, logOf, readLine};
 ghost use Rattle.text.specs.Answer.{fieldBytes, lineBytes, refusedReply, replyOf, Replied, refusalOf, countOf, outOf};
 use point::Point;
@@ -192,14 +193,13 @@ fn read_number(s: &[u8], from: usize, to: usize) -> Number
     Number::Not
 }
 
-// Where the field ends that begins at `from`.
-fn field_end(s: &[u8], from: usize) -> usize
-    requires { ⌜ from ≤ length (now s) ⌝ }
-    ensures { λ r. ⌜ FieldEnd (now (s .entry)) from r ⌝ }
+// Where `byte` stands first in s from `from` on, or the end of s; behind the end, `from`.
+pub fn find_byte(s: &[u8], from: usize, byte: u8) -> usize
+    ensures { λ r. ⌜ r ≡ findByte byte (now (s .entry)) from ⌝ }
 {
     let mut i = from;
     while i < s.len() {
-        if s[i] == 9 {
+        if s[i] == byte {
             return i;
         }
         i = i + 1;
@@ -237,7 +237,7 @@ fn read_numbers(s: &[u8], at: usize, into: &mut [i64]) -> bool
         if s.len() < next {
             return false;
         }
-        let end = field_end(s, next);
+        let end = find_byte(s, next, 9);
         let Number::Is(z) = read_number(s, next, end) else {
             return false;
         };
@@ -294,7 +294,7 @@ fn log_line(s: &[u8], serial: i64, at: usize) -> Line
 pub fn read_line(s: &[u8]) -> Line
     ensures { λ r. ⌜ r ≡ readLine (now (s .entry)) ⌝ }
 {
-    let e = field_end(s, 0);
+    let e = find_byte(s, 0, 9);
     let Number::Is(serial) = read_number(s, 0, e) else {
         return Line::Malformed;
     };
@@ -308,7 +308,7 @@ pub fn read_line(s: &[u8]) -> Line
     if s.len() < at {
         return Line::Malformed;
     }
-    let f = field_end(s, at);
+    let f = find_byte(s, at, 9);
     if is_word(s, at, f, b"EXP") {
         return exp_line(s, serial, f + 1);
     }

@@ -6,9 +6,10 @@ use native.Mathlib.Omega.{arith}
 use lib.ListN.{length, take, drop}
 use lib.Seq.{slice}
 use borrow.Rule.Slice.PartMut.{midOf, putMid}
+use Rattle.text.specs.Find.{part-slice}
 use Rattle.stream.specs.Sheet.{answered}
 use Rattle.stream.specs.Pieces.{cut-answered}
-use Rattle.stream.specs.State.{line, Answered, answered-front, part-slice, part-room, part-answered}
+use Rattle.stream.specs.State.{line, Answered, answered-front, part-room, part-answered}
 use borrow.Author.Needs.{needs}
 use Rattle.stream.proofs.answer_from.Statement.{statement}
 use Rattle.stream.proofs.answer_from.Tie as tie

@@ -7,6 +7,7 @@ use borrow.Author.Needs.{needs}
 use lib.ListN.{length, take}
 use lib.Seq.{slice-empty}
 use Rattle.text.specs.Put.{kept}
+use Rattle.text.specs.Find.{Ended, ended}
 use Rattle.stream.specs.Progress.{Reached, begin, scanned, line-answered, at-end, no-room, stopped}
 use Rattle.stream.specs.State.{line}
 use Rattle.stream.proofs.feed.Statement.{statement}
@@ -21,14 +22,18 @@ abbrev μ-loop : tie.MeasureT-loop
 below : (n m : ℕ) → n ≤ m → (n ≡ m → ⊥) → n < m
 below n m h k = omega arith
 
+-- where the line ends that goes on
+ends : (c : tie.After-find-byte Inv-loop μ-loop) → Ended 10 (c .before .before .before .before .before .args .piece .now) (c .before .before .loop .i) (c .find-byte .result)
+ends c = ended (c .before .before .loop .inv .high) (c .find-byte .ensures)
+
 loop-holds : tie.Need-loop-holds Inv-loop μ-loop
 loop-holds c = let s = c .before .before in begin (line (s .args .h)) (s .args .piece .now) (s .args .out .now)
 
-line-end-requires : tie.Need-line-end-requires Inv-loop μ-loop
-line-end-requires c κs = search needs
+find-byte-requires : tie.Need-find-byte-requires Inv-loop μ-loop
+find-byte-requires c κs = search needs
 
 extended-requires : tie.Need-extended-requires Inv-loop μ-loop
-extended-requires c κs = let e = c .before .line-end .ensures in (e .low, e .high)
+extended-requires c κs = let e = ends (c .before) in (e .low, e .high)
 
 same-length : tie.Need-same-length Inv-loop μ-loop
 same-length c = kept (c .before .before .before .before .loop .inv .wrote)
@@ -37,14 +42,14 @@ returns : tie.Need-returns Inv-loop μ-loop
 returns c =
     let t = c .before in
     let e = t .before in
-    let r = scanned (e .before .before .loop .inv) (e .line-end .ensures) in
+    let r = scanned (e .before .before .loop .inv) (ends e) in
     stopped r (at-end r (t .if1 .taken)) (c .extended .ensures)
 
 sub-if2 : tie.Need-sub-if2 Inv-loop μ-loop
 sub-if2 c = let r = c .before .before .before .loop .inv in omega (arith, kept (r .wrote), r .within)
 
 extended-requires-2 : tie.Need-extended-requires-2 Inv-loop μ-loop
-extended-requires-2 c κs = let e = c .before .before .line-end .ensures in (e .low, e .high)
+extended-requires-2 c κs = let e = ends (c .before .before) in (e .low, e .high)
 
 same-length-2 : tie.Need-same-length-2 Inv-loop μ-loop
 same-length-2 c = kept (c .before .before .before .before .before .loop .inv .wrote)
@@ -54,25 +59,25 @@ returns-2 c =
     let t = c .before in
     let e = t .before .before in
     let l = e .before .before in
-    let r = scanned (l .loop .inv) (e .line-end .ensures) in
-    let h = below _ _ (e .line-end .ensures .high) (t .before .if1 .left) in
-    stopped r (no-room r h (e .line-end .ensures .mark h) (omega (arith, t .if2 .taken, kept (l .loop .inv .wrote)))) (c .extended2 .ensures)
+    let r = scanned (l .loop .inv) (ends e) in
+    let h = below _ _ (ends e .high) (t .before .if1 .left) in
+    stopped r (no-room r h (ends e .mark h) (omega (arith, t .if2 .taken, kept (l .loop .inv .wrote)))) (c .extended2 .ensures)
 
 answer-from-requires : tie.Need-answer-from-requires Inv-loop μ-loop
 answer-from-requires c κs =
     let t = c .before in
     let e = t .before .before in
     let r = e .before .before .loop .inv in
-    (e .line-end .ensures .low, e .line-end .ensures .high, omega (arith, t .if2 .left, kept (r .wrote), r .within))
+    (ends e .low, ends e .high, omega (arith, t .if2 .left, kept (r .wrote), r .within))
 
 empty-requires : tie.Need-empty-requires Inv-loop μ-loop
 empty-requires c κs = search needs
 
 add-i : tie.Need-add-i Inv-loop μ-loop
-add-i c = let e = c .before .before .before .before .before .before .before in omega (arith, e .line-end .ensures .high)
+add-i c = let e = c .before .before .before .before .before .before .before in omega (arith, ends e .high)
 
 loop-less : tie.Need-loop-less Inv-loop μ-loop
-loop-less c = let e = c .before .before .before .before .before .before .before in omega (arith, e .line-end .ensures .low)
+loop-less c = let e = c .before .before .before .before .before .before .before in omega (arith, ends e .low)
 
 loop-again : tie.Need-loop-again Inv-loop μ-loop
 loop-again c =
@@ -80,12 +85,12 @@ loop-again c =
     let t = a .before .before in
     let e = t .before .before in
     let l = e .before .before in
-    let r = scanned (l .loop .inv) (e .line-end .ensures) in
-    let h = below _ _ (e .line-end .ensures .high) (t .before .if1 .left) in
+    let r = scanned (l .loop .inv) (ends e) in
+    let h = below _ _ (ends e .high) (t .before .if1 .left) in
     let same = kept (l .loop .inv .wrote) in
     let told = a .answer-from .ensures in
     rw (c .empty .ensures)
-    (line-answered r h (e .line-end .ensures .mark h) (omega (arith, t .if2 .left, same)) (told .wrote) (omega (arith, told .within, same)))
+    (line-answered r h (ends e .mark h) (omega (arith, t .if2 .left, same)) (told .wrote) (omega (arith, told .within, same)))
 
 extended-requires-3 : tie.Need-extended-requires-3 Inv-loop μ-loop
 extended-requires-3 c κs = (omega arith, c .before .loop .inv .high)
@@ -110,7 +115,7 @@ feed-spec =
     Inv-loop
     μ-loop
     loop-holds
-    line-end-requires
+    find-byte-requires
     extended-requires
     same-length
     returns

@@ -3,6 +3,7 @@ use mathlib.Core.Path.{_≡_, refl, ap, sym, _∙_}
 use mathlib.Core.Bool.{cond}
 use mathlib.Core.List.{List}
 use Prim.Native.Nat.{ℕ, _+_}
+use native.Mathlib.Omega.{arith}
 use lib.IntN.{ℤ, pos}
 use lib.Seq.{slice}
 use mir.Syntax.{w64}
@@ -10,6 +11,7 @@ use mir.Val.{SFits}
 use Rattle.algebra.specs.Order.{_⩽_, _⋖_}
 use Rattle.word.specs.Fits.{back, sfits-mag}
 use Rattle.word.specs.Compare.{ltZ-true, ltZ-false, between, is-between, below-between, above-between}
+use Rattle.text.specs.Find.{Ended, ended}
 use Rattle.text.specs.Fields.{fieldsAt, sameBytes, same-word}
 use Rattle.text.specs.Line.{EXP, LOG, readLine, serialLine, kindLine}
 use Rattle.text.specs.Parse.{serial-field, kind-missing, kind-field, byKind}
@@ -18,12 +20,16 @@ use borrow.Author.Needs.{needs}
 use Rattle.text.proofs.read_line.Statement.{statement}
 use Rattle.text.proofs.read_line.Tie as tie
 
--- what is left to read behind the first field
+-- where the first field ends
+first : (c : tie.After-find-byte) → Ended 9 (c .before .before .args .s .now) 0 (c .find-byte .result)
+first c = ended (omega arith) (c .find-byte .ensures)
+
+-- what is left to read behind it
 front : (c : tie.After-read-number) → readLine (c .before .before .before .args .s .now)
-    ≡ serialLine (c .read-number .result) (fieldsAt (c .before .before .before .args .s .now) (c .before .field-end .result + 1))
+    ≡ serialLine (c .read-number .result) (fieldsAt (c .before .before .before .args .s .now) (c .before .find-byte .result + 1))
 front c =
-    let rest = fieldsAt (c .before .before .before .args .s .now) (c .before .field-end .result + 1) in
-    serial-field (c .before .field-end .ensures) ∙ ap (λ n. serialLine n rest) (sym (c .read-number .ensures))
+    let rest = fieldsAt (c .before .before .before .args .s .now) (c .before .find-byte .result + 1) in
+    serial-field (first (c .before)) ∙ ap (λ n. serialLine n rest) (sym (c .read-number .ensures))
 
 -- once its number is known
 module _ (c : tie.After-known-told) where
@@ -34,7 +40,7 @@ module _ (c : tie.After-known-told) where
   serial = c .before .serial .given .0 .0
 
   abbrev next : ℕ
-  next = c .before .before .before .before .field-end .result + 1
+  next = c .before .before .before .before .find-byte .result + 1
 
   fits : SFits w64 serial
   fits = sfits-mag serial (c .known-told .given .0 .1)
@@ -52,15 +58,18 @@ kinds c =
     rw (is-between least most) at (ranged k)
 
 -- once the kind is found
-module _ (c : tie.After-field-end2) where
+module _ (c : tie.After-find-byte2) where
   abbrev told : tie.After-known-told
   told = c .before .before .before .before
 
   abbrev kind : List ℕ
-  kind = slice (next told) (c .field-end2 .result) (line told)
+  kind = slice (next told) (c .find-byte2 .result) (line told)
 
-  words : readLine (line told) ≡ byKind (serial told) kind (fieldsAt (line told) (c .field-end2 .result + 1))
-  words = kinds (c .before .before) ∙ kind-field (serial told) (c .before .if3 .left) (c .field-end2 .ensures)
+  second : Ended 9 (line told) (next told) (c .find-byte2 .result)
+  second = ended (c .before .if3 .left) (c .find-byte2 .ensures)
+
+  words : readLine (line told) ≡ byKind (serial told) kind (fieldsAt (line told) (c .find-byte2 .result + 1))
+  words = kinds (c .before .before) ∙ kind-field (serial told) (c .before .if3 .left) second
 
 -- which of the two words it is
 is-exp : (c : tie.After-is-word) → sameBytes (kind (c .before .before)) EXP ≡ c .is-word .result
@@ -69,11 +78,11 @@ is-exp c = same-word (kind (c .before .before)) (c .is-word .ensures) refl
 is-log : (c : tie.After-is-word2) → sameBytes (kind (c .before .before .before .before .before)) LOG ≡ c .is-word2 .result
 is-log c = same-word (kind (c .before .before .before .before .before)) (c .is-word2 .ensures) refl
 
-field-end-requires : tie.Need-field-end-requires
-field-end-requires c κs = search needs
+find-byte-requires : tie.Need-find-byte-requires
+find-byte-requires c κs = search needs
 
 read-number-requires : tie.Need-read-number-requires
-read-number-requires c κs = search needs
+read-number-requires c κs = let f = first c in (f .low, f .high)
 
 enum-known-serial : tie.Need-enum-known-serial
 enum-known-serial c = search needs
@@ -97,24 +106,24 @@ returns-3 c =
     rw (ranged k, above-between (pos 1) over)
 
 add-at : tie.Need-add-at
-add-at c = search needs
+add-at c = omega (arith, first (c .before .before .before .before .before .before) .high)
 
 returns-4 : tie.Need-returns-4
 returns-4 c =
     let k = c .before .before .before in
     rw (kinds (c .before), kind-missing (serial k) (line k) (next k) (c .if3 .taken))
 
-field-end-requires-2 : tie.Need-field-end-requires-2
-field-end-requires-2 c κs = search needs
+find-byte-requires-2 : tie.Need-find-byte-requires-2
+find-byte-requires-2 c κs = search needs
 
 slice-aggregate-is-word : tie.Need-slice-aggregate-is-word
 slice-aggregate-is-word c = search needs
 
 is-word-requires : tie.Need-is-word-requires
-is-word-requires c κs = search needs
+is-word-requires c κs = let f = second (c .before) in (f .low, f .high)
 
 add-exp-line : tie.Need-add-exp-line
-add-exp-line c = search needs
+add-exp-line c = omega (arith, second (c .before .before .before) .high)
 
 exp-line-requires : tie.Need-exp-line-requires
 exp-line-requires c κs = search needs
@@ -129,10 +138,10 @@ slice-aggregate-is-word-2 : tie.Need-slice-aggregate-is-word-2
 slice-aggregate-is-word-2 c = search needs
 
 is-word-requires-2 : tie.Need-is-word-requires-2
-is-word-requires-2 c κs = search needs
+is-word-requires-2 c κs = let f = second (c .before .before .before .before) in (f .low, f .high)
 
 add-log-line : tie.Need-add-log-line
-add-log-line c = search needs
+add-log-line c = omega (arith, second (c .before .before .before .before .before .before) .high)
 
 log-line-requires : tie.Need-log-line-requires
 log-line-requires c κs = search needs
@@ -156,7 +165,7 @@ pub read-line-spec : {M : Type 1} → statement M
 read-line-spec =
     tie.close
     (tie.spec
-    field-end-requires
+    find-byte-requires
     read-number-requires
     enum-known-serial
     enum-told
@@ -165,7 +174,7 @@ read-line-spec =
     returns-3
     add-at
     returns-4
-    field-end-requires-2
+    find-byte-requires-2
     slice-aggregate-is-word
     is-word-requires
     add-exp-line

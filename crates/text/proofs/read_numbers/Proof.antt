@@ -5,6 +5,7 @@ use native.Mathlib.Omega.{arith}
 use borrow.Author.Needs.{needs}
 use lib.ListN.{length, take, length-set}
 use Rattle.word.specs.Fits.{back, sfits-mag}
+use Rattle.text.specs.Find.{Ended, ended}
 use Rattle.text.specs.Fields.{fieldsAt}
 use Rattle.text.specs.Line.{numbers}
 use Rattle.text.specs.Parse.{behind, none-read, field-missing, not-number, number-stored, all-read, field-left}
@@ -19,6 +20,11 @@ Inv-loop s at into₀ next₀ i₀ into next i =
 abbrev μ-loop : tie.MeasureT-loop
 μ-loop s at into₀ next₀ i₀ into next i = length into₀ - i
 
+-- where the field ends
+field : (c : tie.After-find-byte Inv-loop μ-loop) → Ended 9 (c .before .before .before .before .before .args .s .now)
+    (c .before .before .before .loop .next) (c .find-byte .result)
+field c = ended (c .before .if1 .left) (c .find-byte .ensures)
+
 loop-holds : tie.Need-loop-holds Inv-loop μ-loop
 loop-holds c = (omega arith, refl, none-read _ _)
 
@@ -31,11 +37,11 @@ returns c =
     let s = l .before .before in
     sym (l .loop .inv .2) ∙ field-missing _ (l .loop .i) (omega arith) (s .args .s .now) (l .loop .next) _ (c .if1 .taken)
 
-field-end-requires : tie.Need-field-end-requires Inv-loop μ-loop
-field-end-requires c κs = search needs
+find-byte-requires : tie.Need-find-byte-requires Inv-loop μ-loop
+find-byte-requires c κs = search needs
 
 read-number-requires : tie.Need-read-number-requires Inv-loop μ-loop
-read-number-requires c κs = search needs
+read-number-requires c κs = let f = field c in (f .low, f .high)
 
 enum-known-z : tie.Need-enum-known-z Inv-loop μ-loop
 enum-known-z c = search needs
@@ -52,8 +58,8 @@ returns-2 c =
     let f = r .before in
     let l = f .before .before .before in
     let s = l .before .before in
-    sym (l .loop .inv .2) ∙ not-number _ (l .loop .i) (omega arith) (s .args .s .now) (l .loop .next) _ (f .before .if1 .left) (f .field-end .result)
-    (f .field-end .ensures) (sym (r .read-number .ensures) ∙ c .enum-told .given .1)
+    sym (l .loop .inv .2) ∙ not-number _ (l .loop .i) (omega arith) (s .args .s .now) (l .loop .next) _ (f .before .if1 .left) (f .find-byte .result) (field f)
+    (sym (r .read-number .ensures) ∙ c .enum-told .given .1)
 
 mul-z : tie.Need-mul-z Inv-loop μ-loop
 mul-z c = search needs
@@ -62,7 +68,7 @@ slice-set-from-z : tie.Need-slice-set-from-z Inv-loop μ-loop
 slice-set-from-z c = search needs
 
 add-next : tie.Need-add-next Inv-loop μ-loop
-add-next c = search needs
+add-next c = let f = c .before .before .before .before in omega (arith, field f .high)
 
 add-i : tie.Need-add-i Inv-loop μ-loop
 add-i c = search needs
@@ -79,9 +85,8 @@ loop-again c =
     let s = l .before .before in
     let z = k .z .given .0 .0 in
     let read = sym (r .read-number .ensures) ∙ k .z .given .1 in
-    let field = f .field-end .ensures in
     let stored = number-stored (s .args .s .now) (l .loop .into) _ (l .loop .i) (l .loop .next) _ z (omega arith) (l .loop .inv .1)
-    (f .before .if1 .left) field read in
+    (f .before .if1 .left) (field f) read in
     (omega arith, simp length-set (l .loop .inv .1), rw (back (sfits-mag z (c .known-told .given .0 .1))) (sym stored ∙ l .loop .inv .2))
 
 same-length-3 : tie.Need-same-length-3 Inv-loop μ-loop
@@ -111,7 +116,7 @@ read-numbers-spec =
     loop-holds
     same-length
     returns
-    field-end-requires
+    find-byte-requires
     read-number-requires
     enum-known-z
     enum-told
