@@ -4,13 +4,16 @@ use mathlib.Core.List.{List, [], _∷_, _++_}
 use Prim.Native.Nat.{ℕ, _+_, _*_, _≤_, _<_}
 use native.Mathlib.Omega.{arith}
 use native.Mathlib.Numerals.{add-one}
+use lib.Dec.{lit<}
 use lib.IntN.{ℤ, pos}
 use lib.ListN.{length, getD, drop, length-append, drop-of-length-le}
 use lib.Seq.{drop-cons}
 use mir.Syntax.{w64}
-use mir.Val.{SFits}
+use mir.Val.{SFits, toZ, ofZ}
+use Rattle.word.specs.Fits.{back}
 use Rattle.text.specs.Decimal.{showNumber}
-use Rattle.text.specs.Written.{short-number}
+use Rattle.text.specs.Written.{short-number, short-range}
+use Rattle.text.specs.Line.{IsSerial}
 use Rattle.text.specs.Answer.{fieldBytes, lineBytes}
 
 -- ---- field by field
@@ -46,3 +49,12 @@ pub line-room : (serial : ℤ) (word : List ℕ) (n : ℤ) (zs : List ℤ) {a b 
     AllFit zs → length (lineBytes serial word (n ∷ zs)) ≤ a + length word + b + 21 * length zs + 3
 unfolding fieldBytes
 line-room serial word n zs p q f = rw line-length (simp length-append (omega (arith, fields-length zs f)))
+
+-- an answer line: the serial of a line, a first number of at most b bytes, and others
+pub answer-room : (serial : ℤ) (word : List ℕ) (n : ℤ) (zs : List ℤ) {b room : ℕ} → IsSerial serial → length (showNumber n) ≤ b → AllFit zs →
+    10 + length word + b + 21 * length zs ≤ room → length (lineBytes serial word (n ∷ zs)) ≤ room
+answer-room serial word n zs s q f h = omega (arith, line-room serial word n zs (short-range 1 6 serial (lit< tt) s) q f)
+
+-- a number that fits, as the machine holds it
+pub fits-back : {z : ℤ} → SFits w64 z → SFits w64 (toZ w64 (ofZ w64 z))
+fits-back f = rw (back f) f

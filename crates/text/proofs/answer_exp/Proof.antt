@@ -1,20 +1,14 @@
 -- `text::answer_exp` meets its contract: EXP's figures as a line, or its refusal.
 use mathlib.Core.Path.{_≡_, refl, sym, _∙_}
-use mathlib.Core.List.{List, [], _∷_}
-use Prim.Native.Nat.{_≤_}
 use native.Mathlib.Omega.{arith}
-use lib.Dec.{lit<}
-use lib.IntN.{ℤ}
-use lib.ListN.{length}
 use mir.Syntax.{w64}
 use mir.Val.{SFits}
 use Rattle.word.specs.Fits.{back, sfits-mag}
 use Rattle.exponential.specs.Answer.{expAnswer, expRecord}
 use Rattle.exponential.specs.declared.Figures.{Figures}
-use Rattle.text.specs.Line.{EXP}
-use Rattle.text.specs.Written.{short-number, short-range}
-use Rattle.text.specs.Answer.{lineBytes, replyOf}
-use Rattle.text.specs.Layout.{line-room}
+use Rattle.text.specs.Written.{short-number}
+use Rattle.text.specs.Answer.{replyOf}
+use Rattle.text.specs.Layout.{answer-room, fits-back}
 use Rattle.text.specs.Call.{refused-reply}
 use borrow.Author.Needs.{needs}
 use Rattle.text.proofs.answer_exp.Statement.{statement}
@@ -42,16 +36,6 @@ module _ (c : tie.After-struct-told3) where
   fit-bound : SFits w64 (figures .«error_bound»)
   fit-bound = sfits-mag _ (c .struct-told3 .given .1 .0 .1)
 
-  -- so the line takes at most 7 + 3 + 20 + 3·21 + 3 bytes
-  abbrev others : List ℤ
-  others = figures .value .x ∷ figures .value .y ∷ figures .«error_bound» ∷ []
-
-  room : length (lineBytes (start .args .serial) EXP (start .args .n ∷ others)) ≤ 96
-  room =
-      let a = start .args in
-      line-room (a .serial) EXP (a .n) others (short-range 1 6 (a .serial) (lit< tt) (start .pre .1)) (short-number _ (start .fits .n))
-      (fit-x, (fit-y, (fit-bound, tt)))
-
 exp-requires : tie.Need-exp-requires
 exp-requires c κs = search needs
 
@@ -68,8 +52,9 @@ put-line-requires : tie.Need-put-line-requires
 put-line-requires c κs =
     let t = c .before .before .before in
     let s = start t in
-    rw (back (s .fits .serial), back (s .fits .n), back (fit-x t), back (fit-y t), back (fit-bound t))
-    (omega (arith, s .pre .0, room t))
+    -- 7 + 3 + 20 + 3·21 + 3 bytes
+    rw (back (s .fits .serial), back (s .fits .n))
+    (answer-room _ _ _ _ (s .pre .1) (short-number _ (s .fits .n)) (search (fits-back, fit-x t, fit-y t, fit-bound t)) (omega (arith, s .pre .0)))
 
 enum-known-r : tie.Need-enum-known-r
 enum-known-r c = search needs

@@ -1,10 +1,7 @@
 -- `text::answer_log` meets its contract: LOG's figures as a line, or its refusal.
 use mathlib.Core.Path.{_≡_, refl, sym, _∙_}
-use mathlib.Core.List.{List, [], _∷_}
 use Prim.Native.Nat.{_≤_}
 use native.Mathlib.Omega.{arith}
-use lib.Dec.{lit<}
-use lib.IntN.{ℤ}
 use lib.ListN.{length}
 use mir.Syntax.{w64}
 use mir.Val.{SFits}
@@ -12,10 +9,9 @@ use Rattle.word.specs.Fits.{back, sfits-mag}
 use Rattle.logarithm.specs.Answer.{logAnswer, logRecord}
 use Rattle.logarithm.specs.declared.Figures.{Figures}
 use Rattle.logarithm.specs.declared.Answer.the-variants.{Answered}
-use Rattle.text.specs.Line.{LOG}
-use Rattle.text.specs.Written.{short-range}
-use Rattle.text.specs.Answer.{lineBytes, replyOf}
-use Rattle.text.specs.Layout.{line-room}
+use Rattle.text.specs.Decimal.{showNumber}
+use Rattle.text.specs.Answer.{replyOf}
+use Rattle.text.specs.Layout.{answer-room, fits-back}
 use Rattle.text.specs.Call.{refused-reply, short-steps}
 use borrow.Author.Needs.{needs}
 use Rattle.text.proofs.answer_log.Statement.{statement}
@@ -54,16 +50,8 @@ module _ (c : tie.After-struct-told5) where
   fit-bound : SFits w64 (figures .«error_bound»)
   fit-bound = sfits-mag _ (c .struct-told5 .given .1 .1 .1 .1 .0 .1)
 
-  -- so the line takes at most 7 + 3 + 2 + 5·21 + 3 bytes
-  abbrev others : List ℤ
-  others = figures .x ∷ figures .y ∷ figures .«binary_exponent» ∷ figures .quadrant ∷ figures .«error_bound» ∷ []
-
-  room : length (lineBytes (start .args .serial) LOG (start .args .n ∷ others)) ≤ 120
-  room =
-      let a = start .args in
-      line-room (a .serial) LOG (a .n) others (short-range 1 6 (a .serial) (lit< tt) (start .pre .1))
-      (short-steps (a .n) (a .point .x) (a .point .y) (rw answered tt))
-      (fit-x, (fit-y, (fit-k, (fit-q, (fit-bound, tt)))))
+  two-digits : length (showNumber (start .args .n)) ≤ 2
+  two-digits = short-steps (start .args .n) (start .args .point .x) (start .args .point .y) (rw answered tt)
 
 log-requires : tie.Need-log-requires
 log-requires c κs = search needs
@@ -81,16 +69,9 @@ put-line-requires : tie.Need-put-line-requires
 put-line-requires c κs =
     let t = c .before .before .before in
     let s = start t in
-    rw (
-      back (s .fits .serial),
-      back (s .fits .n),
-      back (fit-x t),
-      back (fit-y t),
-      back (fit-k t),
-      back (fit-q t),
-      back (fit-bound t),
-    )
-    (omega (arith, s .pre .0, room t))
+    -- 7 + 3 + 2 + 5·21 + 3 bytes
+    rw (back (s .fits .serial), back (s .fits .n))
+    (answer-room _ _ _ _ (s .pre .1) (two-digits t) (search (fits-back, fit-x t, fit-y t, fit-k t, fit-q t, fit-bound t)) (omega (arith, s .pre .0)))
 
 enum-known-r : tie.Need-enum-known-r
 enum-known-r c = search needs
