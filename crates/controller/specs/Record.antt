@@ -1,13 +1,17 @@
 -- The record of a C call: an answer's numbers, eight bytes each, low byte first (01, Points and units).
-use mathlib.Core.Path.{_≡_, refl}
+use mathlib.Core.Path.{_≡_, refl, _∙_}
 use mathlib.Core.Bool.{cond}
 use mathlib.Core.List.{List, [], _∷_, _++_}
-use Prim.Native.Nat.{ℕ, _+_, _*_, _≤_, _<_}
+use Prim.Native.Nat.{ℕ, _+_, _*_, _^_, _≤_, _<_}
 use native.Mathlib.Numerals.{add-one}
 use lib.Dec.{ltb}
 use lib.IntN.{ℤ, pos, negsuc}
 use lib.ListN.{length, getD, drop, drop-of-length-le}
 use lib.Seq.{drop-cons}
+use lib.Signed.{mag}
+use mir.Syntax.{w64}
+use mir.Val.{toZ, ofZ}
+use Rattle.word.specs.Fits.{back, sfits-mag}
 use Rattle.word.specs.Bytes.{bytes, signed-bytes, length-bytes, encode, length-encode, poke, poke-append, poke-front}
 
 -- ---- a buffer under 48 bytes is refused with 6, and nothing is written
@@ -43,3 +47,8 @@ encode-front zs b h = rw length-encode at (poke-front (encode zs) b (rw length-e
 pub poke-none : (b xs : List ℕ) (k : ℕ) → xs ≡ [] → poke b k xs ≡ b
 unfolding poke
 poke-none b xs k e = rw e
+
+-- ---- A CALL: the numbers that are handed over are the answer's, and the first comes back as the machine holds it
+pub called : (b : List ℕ) {b′ : List ℕ} {zs answer : List ℤ} {r : ℤ} → zs ≡ answer → mag r < 2 ^ 63 → (r ≡ handed b zs) × (b′ ≡ written b zs) →
+    (toZ w64 (ofZ w64 r) ≡ handed b answer) × (b′ ≡ written b answer)
+called b {r = r} e f h = let told = rw e at h in (back (sfits-mag r f) ∙ told .0, told .1)

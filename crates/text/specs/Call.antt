@@ -2,11 +2,15 @@
 use mathlib.Core.Path.{_≡_, refl}
 use mathlib.Core.Bool.{Bool, true, false}
 use mathlib.Core.List.{List, [], _∷_}
-use Prim.Native.Nat.{ℕ, _≤_, _<_}
+use Prim.Native.Nat.{ℕ, _≤_, _<_, _^_}
 use lib.Dec.{lit<}
 use lib.IntN.{ℤ, pos}
 use lib.ListN.{length}
+use lib.Signed.{mag}
+use mir.Syntax.{w64}
+use mir.Val.{SFits, toZ, ofZ}
 use borrow.Author.Tests.{lt-ltb, le-ltb}
+use Rattle.word.specs.Fits.{back, sfits-mag}
 use Rattle.word.specs.Compare.{between}
 use Rattle.point.specs.declared.Refusal.{Refusal}
 use Rattle.point.specs.declared.Refusal.the-variants as why
@@ -40,12 +44,19 @@ short-steps n x y h = short-range 3 1 n (lit< tt) (first (between (pos 3) (pos 4
     first false r a h = absurd h
 
 -- ---- no refusal's number is 0
-pub refused-reply : (r : Refusal) (serial : ℤ) (kind : List ℕ) (zs : List ℤ) →
+refused-reply : (r : Refusal) (serial : ℤ) (kind : List ℕ) (zs : List ℤ) →
     replyBy (refusalNumber r) serial kind zs ≡ refusedReply serial (refusalNumber r)
 refused-reply why.Steps serial kind zs = refl
 refused-reply why.Exponent serial kind zs = refl
 refused-reply why.Part serial kind zs = refl
 refused-reply why.Zero serial kind zs = refl
+
+-- so a line that is turned away is answered as the refusal says; its two numbers as the machine holds them
+pub turned-away : (r : Refusal) (serial : ℤ) (kind : List ℕ) (zs : List ℤ) {number refusal : ℤ} {b b′ : List ℕ} {written : ℕ} →
+    SFits w64 serial → mag number < 2 ^ 63 → number ≡ refusalNumber r →
+    Replied (refusedReply (toZ w64 (ofZ w64 serial)) (toZ w64 (ofZ w64 number))) b b′ refusal written →
+    Replied (replyBy (refusalNumber r) serial kind zs) b b′ refusal written
+turned-away r serial kind zs {number} s n e a = rw (refused-reply r serial kind zs) (rw (back s, back (sfits-mag number n), e) at a)
 
 -- ---- a line that is read has a serial in its range
 abbrev pub SerialOf : Line → Type 0

@@ -1,7 +1,8 @@
 -- `controller::bkm_exp` meets its contract.
 use mathlib.Core.Path.{ap, _∙_}
-use Rattle.word.specs.Fits.{back, sfits-mag}
+use Rattle.word.specs.Fits.{back}
 use Rattle.exponential.specs.Answer.{expRecord}
+use Rattle.controller.specs.Record.{called}
 use borrow.Author.Needs.{needs}
 use Rattle.controller.proofs.bkm_exp.Statement.{statement}
 use Rattle.controller.proofs.bkm_exp.Tie as tie
@@ -22,13 +23,9 @@ returns : tie.Need-returns
 returns c =
     let h = c .before .before in
     let r = h .before .before in
-    let a = r .before in
-    let s = a .before .before in
-    let is = r .exp-record .ensures
-    ∙ ap expRecord
-    (rw (back (s .fits .n), back (s .fits .ex), back (s .fits .ey), back (s .fits .sx), back (s .fits .sy)) at (a .exp .ensures .0)) in
-    let told = rw is at (h .hand-over .ensures) in
-    (back (sfits-mag _ (h .hand-over .ok)) ∙ told .0, told .1)
+    let s = r .before .before .before in
+    let answer = rw (back (s .fits .n), back (s .fits .ex), back (s .fits .ey), back (s .fits .sx), back (s .fits .sy)) at (r .before .exp .ensures .0) in
+    called (s .args .out .now) (r .exp-record .ensures ∙ ap expRecord answer) (h .hand-over .ok) (h .hand-over .ensures)
 
 pub bkm-exp-spec : {M : Type 1} → statement M
 bkm-exp-spec =

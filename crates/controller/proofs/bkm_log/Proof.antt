@@ -1,7 +1,8 @@
 -- `controller::bkm_log` meets its contract.
 use mathlib.Core.Path.{ap, _∙_}
-use Rattle.word.specs.Fits.{back, sfits-mag}
+use Rattle.word.specs.Fits.{back}
 use Rattle.logarithm.specs.Answer.{logRecord}
+use Rattle.controller.specs.Record.{called}
 use borrow.Author.Needs.{needs}
 use Rattle.controller.proofs.bkm_log.Statement.{statement}
 use Rattle.controller.proofs.bkm_log.Tie as tie
@@ -22,11 +23,9 @@ returns : tie.Need-returns
 returns c =
     let h = c .before .before in
     let r = h .before .before in
-    let a = r .before in
-    let s = a .before .before in
-    let is = r .log-record .ensures ∙ ap logRecord (rw (back (s .fits .n), back (s .fits .x), back (s .fits .y)) at (a .log .ensures .0)) in
-    let told = rw is at (h .hand-over .ensures) in
-    (back (sfits-mag _ (h .hand-over .ok)) ∙ told .0, told .1)
+    let s = r .before .before .before in
+    let answer = rw (back (s .fits .n), back (s .fits .x), back (s .fits .y)) at (r .before .log .ensures .0) in
+    called (s .args .out .now) (r .log-record .ensures ∙ ap logRecord answer) (h .hand-over .ok) (h .hand-over .ensures)
 
 pub bkm-log-spec : {M : Type 1} → statement M
 bkm-log-spec =

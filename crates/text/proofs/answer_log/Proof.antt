@@ -12,7 +12,7 @@ use Rattle.logarithm.specs.declared.Answer.the-variants.{Answered}
 use Rattle.text.specs.Decimal.{showNumber}
 use Rattle.text.specs.Answer.{replyOf}
 use Rattle.text.specs.Layout.{answer-room, fits-back}
-use Rattle.text.specs.Call.{refused-reply, short-steps}
+use Rattle.text.specs.Call.{turned-away, short-steps}
 use borrow.Author.Needs.{needs}
 use Rattle.text.proofs.answer_log.Statement.{statement}
 use Rattle.text.proofs.answer_log.Tie as tie
@@ -108,26 +108,13 @@ same-length-2 c = search needs
 returns-2 : tie.Need-returns-2
 unfolding replyOf logRecord
 returns-2 c =
-    let p = c .before .before in
-    let m = p .before .before in
+    let m = c .before .before .before .before in
     let r = m .before .before in
-    let s = r .before .before .before .before in
-    rw (sym (told (r .before .before)) ∙ r .r .given .1, refused-reply (r .r .given .0 .0))
-    (rw (back (s .fits .serial), back (sfits-mag (m .number .result) (m .number .ok)), m .number .ensures) at (p .refused .ensures))
+    rw (sym (told (r .before .before)) ∙ r .r .given .1)
+    (turned-away (r .r .given .0 .0) _ _ _ (r .before .before .before .before .fits .serial) (m .number .ok) (m .number .ensures)
+    (c .before .before .refused .ensures))
 
 pub answer-log-spec : {M : Type 1} → statement M
 answer-log-spec =
-    tie.close
-    (tie.spec
-    log-requires
-    enum-known-f
-    slice-aggregate-put-line
-    slice-aggregate-put-line-2
-    put-line-requires
-    enum-known-r
-    number-requires
-    refused-requires
-    same-length
-    returns
-    same-length-2
-    returns-2)
+    tie.close (tie.spec log-requires enum-known-f slice-aggregate-put-line slice-aggregate-put-line-2 put-line-requires enum-known-r number-requires
+    refused-requires same-length returns same-length-2 returns-2)
