@@ -360,8 +360,9 @@ fn answer_log(serial: i64, n: i64, point: Point, out: &mut [u8]) -> LineAnswer
 {
     match logarithm::log(n, point) {
         logarithm::Answer::Answered(f) => {
-            let x = f.x;
-            let y = f.y;
+            let value = f.value;
+            let x = value.x;
+            let y = value.y;
             let binary_exponent = f.binary_exponent;
             let quadrant = f.quadrant;
             let error_bound = f.error_bound;

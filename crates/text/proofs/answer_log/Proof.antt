@@ -24,7 +24,7 @@ told c = rw (back (c .before .before .fits .n)) at (c .log .ensures .0)
 -- ---- its figures, each of which fits
 module _ (c : tie.After-struct-told5) where
   abbrev after : tie.After-f
-  after = c .before .before .before .before .before .before
+  after = c .before .before .before .before .before .before .before
 
   abbrev start : tie.Start
   start = after .before .before .before .before
@@ -35,20 +35,20 @@ module _ (c : tie.After-struct-told5) where
   answered : logAnswer (start .args .n) (start .args .point .x) (start .args .point .y) ≡ Answered figures
   answered = sym (told (after .before .before)) ∙ after .f .given .1
 
-  fit-x : SFits w64 (figures .x)
+  fit-x : SFits w64 (figures .value .x)
   fit-x = sfits-mag _ (c .before .before .before .before .struct-told .given .0 .1)
 
-  fit-y : SFits w64 (figures .y)
+  fit-y : SFits w64 (figures .value .y)
   fit-y = sfits-mag _ (c .before .before .before .struct-told2 .given .1 .0 .1)
 
   fit-k : SFits w64 (figures .«binary_exponent»)
-  fit-k = sfits-mag _ (c .before .before .struct-told3 .given .1 .1 .0 .1)
+  fit-k = sfits-mag _ (c .before .before .struct-told3 .given .1 .0 .1)
 
   fit-q : SFits w64 (figures .quadrant)
-  fit-q = sfits-mag _ (c .before .struct-told4 .given .1 .1 .1 .0 .1)
+  fit-q = sfits-mag _ (c .before .struct-told4 .given .1 .1 .0 .1)
 
   fit-bound : SFits w64 (figures .«error_bound»)
-  fit-bound = sfits-mag _ (c .struct-told5 .given .1 .1 .1 .1 .0 .1)
+  fit-bound = sfits-mag _ (c .struct-told5 .given .1 .1 .1 .0 .1)
 
   two-digits : length (showNumber (start .args .n)) ≤ 2
   two-digits = short-steps (start .args .n) (start .args .point .x) (start .args .point .y) (rw answered tt)
