@@ -1,22 +1,26 @@
 -- `point::is_between` meets its contract.
+use mathlib.Core.Path.{_≡_}
+use mathlib.Core.Bool.{true, false}
+use lib.Signed.{leZ}
 use Rattle.word.specs.Fits.{back}
 use Rattle.word.specs.Compare.{between}
 use Rattle.point.proofs.is_between.Statement.{statement}
 use Rattle.point.proofs.is_between.Tie as tie
 
-returns : tie.Need-returns
-unfolding between
-returns c =
-    let f = c .before .fits in
-    let t = simp (back, f .x, f .lo) at (c .if1 .taken) in
-    simp (back, f .x, f .hi, t)
-
+-- x below lo, then x from lo on
 returns-2 : tie.Need-returns-2
 unfolding between
 returns-2 c =
-    let f = c .before .fits in
-    let t = simp (back, f .x, f .lo) at (c .if1 .left) in
-    simp (back, f .x, f .lo, t)
+    let s = c .before in
+    let t : leZ (s .args .lo) (s .args .x) ≡ false = simp (back, s .fits .x, s .fits .lo) at (c .if1 .left) in
+    simp (back, s .fits .x, s .fits .lo, t)
+
+returns : tie.Need-returns
+unfolding between
+returns c =
+    let s = c .before in
+    let t : leZ (s .args .lo) (s .args .x) ≡ true = simp (back, s .fits .x, s .fits .lo) at (c .if1 .taken) in
+    simp (back, s .fits .x, s .fits .hi, t)
 
 pub is-between-spec : {M : Type 1} → statement M
 is-between-spec = tie.close (tie.spec returns returns-2)
