@@ -72,6 +72,6 @@ module _ {column row : ℤ} (left : pos 8 ⩽ column) (right : column ⩽ pos 15
       number : Small (numbered column row)
       number = small (numbered column row) (lin ρ (left & low & none) (search reify depth 20) tt) (lin ρ (right & high & none) (search reify depth 20) tt)
 
-  pub cell-found : (natAbs (numbered column row) ≡ cellOf column row) × (natAbs (numbered column row) < 257)
+  pub cell-found : natAbs (numbered column row) ≡ cellOf column row
   unfolding cellOf
-  cell-found = (rw (is-between left right, is-between low high), omega (arith, cell-fits .below))
+  cell-found = rw (is-between left right, is-between low high)

@@ -1,5 +1,4 @@
 -- `tables::cell_of` meets its contract: each test that is met says where the cell is not, and the four that are not met where it is.
-use native.Mathlib.Omega.{arith}
 use Rattle.word.specs.Fits.{back}
 use Rattle.word.specs.Compare.{ltZ-true, ltZ-false}
 use Rattle.tables.specs.CellNumber.{no-column-below, no-column-above, no-row-below, no-row-above, cell-found, cell-fits}
@@ -9,22 +8,22 @@ use Rattle.tables.proofs.cell_of.Tie as tie
 returns : tie.Need-returns
 returns c =
     let s = c .before in
-    (no-column-below (s .args .column) (s .args .row) (ltZ-true (simp (back, s .fits .column) at (c .if1 .taken))), omega arith)
+    no-column-below (s .args .column) (s .args .row) (ltZ-true (simp (back, s .fits .column) at (c .if1 .taken)))
 
 returns-2 : tie.Need-returns-2
 returns-2 c =
     let s = c .before .before in
-    (no-column-above (s .args .column) (s .args .row) (ltZ-true (simp (back, s .fits .column) at (c .if2 .taken))), omega arith)
+    no-column-above (s .args .column) (s .args .row) (ltZ-true (simp (back, s .fits .column) at (c .if2 .taken)))
 
 returns-3 : tie.Need-returns-3
 returns-3 c =
     let s = c .before .before .before in
-    (no-row-below (s .args .column) (s .args .row) (ltZ-true (simp (back, s .fits .row) at (c .if3 .taken))), omega arith)
+    no-row-below (s .args .column) (s .args .row) (ltZ-true (simp (back, s .fits .row) at (c .if3 .taken)))
 
 returns-4 : tie.Need-returns-4
 returns-4 c =
     let s = c .before .before .before .before in
-    (no-row-above (s .args .column) (s .args .row) (ltZ-true (simp (back, s .fits .row) at (c .if4 .taken))), omega arith)
+    no-row-above (s .args .column) (s .args .row) (ltZ-true (simp (back, s .fits .row) at (c .if4 .taken)))
 
 cell-number-requires : tie.Need-cell-number-requires
 cell-number-requires c κs =

@@ -18,7 +18,7 @@ returns : tie.Need-returns
 returns c =
     let s = c .before .before in
     reciprocal-kept (s .args .column) (s .args .row)
-    (c .reciprocal-at .ensures ∙ ap reciprocalAt (c .before .cell-of .ensures .0 ∙ ap₂ cellOf (back (s .fits .column)) (back (s .fits .row))))
+    (c .reciprocal-at .ensures ∙ ap reciprocalAt (c .before .cell-of .ensures ∙ ap₂ cellOf (back (s .fits .column)) (back (s .fits .row))))
 
 pub reciprocal-spec : {M : Type 1} → statement M
 reciprocal-spec = tie.close (tie.spec cell-of-requires reciprocal-at-requires returns)

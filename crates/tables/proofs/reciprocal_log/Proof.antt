@@ -19,7 +19,7 @@ returns : tie.Need-returns
 returns c =
     let s = c .before .before in
     log-kept (s .args .column) (s .args .row)
-    (c .reciprocal-log-at .ensures ∙ ap reciprocalLogAt (c .before .cell-of .ensures .0 ∙ ap₂ cellOf (back (s .fits .column)) (back (s .fits .row)))
+    (c .reciprocal-log-at .ensures ∙ ap reciprocalLogAt (c .before .cell-of .ensures ∙ ap₂ cellOf (back (s .fits .column)) (back (s .fits .row)))
     ∙ ap entry (sym (reciprocal-table-at (s .args .column) (s .args .row))))
 
 pub reciprocal-log-spec : {M : Type 1} → statement M
