@@ -25,8 +25,8 @@ use Rattle.text.specs.Written.{short-range}
 use Rattle.text.specs.Fields.{fields, sameBytes}
 use Rattle.text.specs.Line.{isSerial, IsSerial, EXP, LOG, Numbers, are, none, numbers, formed, expOf, logOf, kindLine, serialLine, lineOf, readLine}
 use Rattle.text.specs.Answer.{replyBy, refusedReply, replyOf, reply, Replied, refusalOf, countOf, outOf}
-use Rattle.text.specs.declared.Number.{Number}
-use Rattle.text.specs.declared.Number.the-variants as num
+use Rattle.text.specs.declared.reading.Number.{Number}
+use Rattle.text.specs.declared.reading.Number.the-variants as num
 use Rattle.text.specs.declared.Line.{Line}
 use Rattle.text.specs.declared.Line.the-variants as line
 

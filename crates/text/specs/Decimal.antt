@@ -5,10 +5,10 @@ use Prim.Native.Nat.{ℕ, zero, suc, _+_, _*_, _-_, _/_, _%_, _^_}
 use lib.Dec.{ltb, leb, eqb}
 use lib.IntN.{ℤ, pos, negsuc}
 use lib.ListN.{length}
-use Rattle.text.specs.declared.Natural.{Natural}
-use Rattle.text.specs.declared.Natural.the-variants as nat
-use Rattle.text.specs.declared.Number.{Number}
-use Rattle.text.specs.declared.Number.the-variants as num
+use Rattle.text.specs.declared.reading.Natural.{Natural}
+use Rattle.text.specs.declared.reading.Natural.the-variants as nat
+use Rattle.text.specs.declared.reading.Number.{Number}
+use Rattle.text.specs.declared.reading.Number.the-variants as num
 
 -- ---- writing
 -- the digits of v, the highest first; any f above v serves

@@ -9,8 +9,8 @@ use Rattle.word.specs.Compare.{between}
 use Rattle.point.specs.declared.Point.{Point}
 use Rattle.text.specs.Decimal.{readNumber}
 use Rattle.text.specs.Fields.{fields, sameBytes}
-use Rattle.text.specs.declared.Number.{Number}
-use Rattle.text.specs.declared.Number.the-variants as num
+use Rattle.text.specs.declared.reading.Number.{Number}
+use Rattle.text.specs.declared.reading.Number.the-variants as num
 use Rattle.text.specs.declared.Line.{Line}
 use Rattle.text.specs.declared.Line.the-variants.{Exp, Log, Malformed}
 

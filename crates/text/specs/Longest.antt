@@ -13,8 +13,8 @@ use Rattle.text.specs.Written.{short-range}
 use Rattle.text.specs.Read.{number-is, number-length}
 use Rattle.text.specs.Fields.{split, fields, sameBytes}
 use Rattle.text.specs.Line.{isSerial, IsSerial, EXP, LOG, Numbers, are, none, inFront, numbers, formed, expOf, logOf, kindLine, serialLine, lineOf, readLine}
-use Rattle.text.specs.declared.Number.{Number}
-use Rattle.text.specs.declared.Number.the-variants as num
+use Rattle.text.specs.declared.reading.Number.{Number}
+use Rattle.text.specs.declared.reading.Number.the-variants as num
 use Rattle.text.specs.declared.Line.{Line}
 use Rattle.text.specs.declared.Line.the-variants as line
 

@@ -12,7 +12,7 @@ use Rattle.text.specs.Decimal.{readNumber}
 use Rattle.text.specs.Find.{Ended}
 use Rattle.text.specs.Fields.{sameBytes, fieldsAt, field-parts, no-field, first-field, some-field}
 use Rattle.text.specs.Line.{EXP, LOG, Numbers, are, none, inFront, numbers, formed, expOf, logOf, kindLine, serialLine, lineOf, readLine}
-use Rattle.text.specs.declared.Number.the-variants as num
+use Rattle.text.specs.declared.reading.Number.the-variants as num
 use Rattle.text.specs.declared.Line.{Line}
 use Rattle.text.specs.declared.Line.the-variants.{Malformed}
 

@@ -15,9 +15,9 @@ use borrow.Author.Tests.{lt-ltb, le-ltb, ltb-false, ne-eqb, eqb-true, eqb-false,
 use Rattle.text.specs.Either.{either}
 use Rattle.text.specs.Decimal.{showNatural, showNumber, value, upTo, readNatural, readNumber, plus, minus}
 use Rattle.text.specs.Written.{digits-ind, digits-one, digits-more, small-or, short-number}
-use Rattle.text.specs.declared.Natural.{Natural}
-use Rattle.text.specs.declared.Natural.the-variants as nat
-use Rattle.text.specs.declared.Number.the-variants as num
+use Rattle.text.specs.declared.reading.Natural.{Natural}
+use Rattle.text.specs.declared.reading.Natural.the-variants as nat
+use Rattle.text.specs.declared.reading.Number.the-variants as num
 
 -- ---- what is written is read
 behind : Natural → List ℕ → Natural

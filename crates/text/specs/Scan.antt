@@ -11,9 +11,9 @@ use lib.Seq.{slice, slice-cons, slice-empty, length-slice}
 use borrow.Author.Tests.{lt-ltb, le-ltb, eq-eqb, ne-eqb, lt-leb}
 use Rattle.text.specs.Either.{either}
 use Rattle.text.specs.Decimal.{value, upTo, readNatural, readNumber, plus, minus}
-use Rattle.text.specs.declared.Natural.{Natural}
-use Rattle.text.specs.declared.Natural.the-variants as nat
-use Rattle.text.specs.declared.Number.the-variants as num
+use Rattle.text.specs.declared.reading.Natural.{Natural}
+use Rattle.text.specs.declared.reading.Natural.the-variants as nat
+use Rattle.text.specs.declared.reading.Number.the-variants as num
 
 -- ---- digit by digit
 -- a number that has grown past m stays past it

@@ -1,29 +1,18 @@
 // Numbers, fields and lines of a sheet: reading, writing, and the answer to a line.
 ghost use mathlib.Core.Path.{_≡_};
-ghost use mathlib.Core.Bool.{cond};
-ghost use Prim.Native.Nat.{_+_, _≤_, _<_};
+ghost use Prim.Native.Nat.{_+_, _≤_};
 ghost use lib.IntN.{natAbs};
 ghost use lib.ListN.{length};
-ghost use lib.Seq.{slice};
 ghost use Rattle.text.specs.Put.{Put, Front};
-ghost use Rattle.text.specs.Decimal.{showNatural, showNumber, readNatural, readNumber};
+ghost use Rattle.text.specs.Decimal.{showNatural, showNumber};
 ghost use Rattle.text.specs.Find.{findByte};
-ghost use Rattle.text.specs.Fields.{fieldsAt, sameBytes};
-ghost use Rattle.text.specs.Line.{IsSerial, numbers, are, none, formed, expOf, logOf, readLine};
+ghost use Rattle.text.specs.Fields.{fieldsAt};
+ghost use Rattle.text.specs.Line.{IsSerial, numbers, formed, expOf, logOf, readLine};
 ghost use Rattle.text.specs.Answer.{fieldBytes, lineBytes, refusedReply, replyOf, Replied, refusalOf, countOf, outOf};
 use point::Point;
+use reading::Number;
 
-// A size that stands in a field, or none.
-enum Natural {
-    Is(u64),
-    Not,
-}
-
-// A number that stands in a field, or none.
-enum Number {
-    Is(i64),
-    Not,
-}
+mod reading;
 
 // A line of a sheet.
 pub enum Line {
@@ -130,69 +119,6 @@ fn put_line(serial: i64, word: &[u8], fields: &[i64], out: &mut [u8]) -> usize
 
 // ---- reading
 
-// The size whose digits stand from `from` up to `to`.
-fn read_natural(s: &[u8], from: usize, to: usize) -> Natural
-    requires { ⌜ (from ≤ to) × (to ≤ length (now s)) ⌝ }
-    ensures { λ r. ⌜ r ≡ readNatural (slice from to (now (s .entry))) ⌝ }
-{
-    if from == to {
-        return Natural::Not;
-    }
-    if s[from] == 48 {
-        if from + 1 < to {
-            return Natural::Not;
-        }
-        return Natural::Is(0);
-    }
-    let mut acc: u64 = 0;
-    let mut i = from;
-    while i < to {
-        let d = s[i];
-        if d < 48 {
-            return Natural::Not;
-        }
-        if 57 < d {
-            return Natural::Not;
-        }
-        if 922337203685477580 < acc {
-            return Natural::Not;
-        }
-        acc = acc * 10 + (d - 48) as u64;
-        i = i + 1;
-    }
-    if acc <= 9223372036854775808 {
-        Natural::Is(acc)
-    } else {
-        Natural::Not
-    }
-}
-
-// The number that stands from `from` up to `to`.
-fn read_number(s: &[u8], from: usize, to: usize) -> Number
-    requires { ⌜ (from ≤ to) × (to ≤ length (now s)) ⌝ }
-    ensures { λ r. ⌜ r ≡ readNumber (slice from to (now (s .entry))) ⌝ }
-{
-    if from == to {
-        return Number::Not;
-    }
-    if s[from] == 45 {
-        let Natural::Is(m) = read_natural(s, from + 1, to) else {
-            return Number::Not;
-        };
-        if m == 0 {
-            return Number::Not;
-        }
-        return Number::Is(-((m - 1) as i64) - 1);
-    }
-    let Natural::Is(m) = read_natural(s, from, to) else {
-        return Number::Not;
-    };
-    if m <= 9223372036854775807 {
-        return Number::Is(m as i64);
-    }
-    Number::Not
-}
-
 // Where `byte` stands first in s from `from` on, or the end of s; behind the end, `from`.
 pub fn find_byte(s: &[u8], from: usize, byte: u8) -> usize
     ensures { λ r. ⌜ r ≡ findByte byte (now (s .entry)) from ⌝ }
@@ -207,56 +133,12 @@ pub fn find_byte(s: &[u8], from: usize, byte: u8) -> usize
     i
 }
 
-// Whether the bytes from `from` up to `to` are those of `word`.
-fn is_word(s: &[u8], from: usize, to: usize, word: &[u8]) -> bool
-    requires { ⌜ (from ≤ to) × (to ≤ length (now s)) ⌝ }
-    ensures { λ r. ⌜ r ≡ sameBytes (slice from to (now (s .entry))) (now (word .entry)) ⌝ }
-{
-    if to - from != word.len() {
-        return false;
-    }
-    let mut i: usize = 0;
-    let mut j = from;
-    while i < word.len() {
-        if s[j] != word[i] {
-            return false;
-        }
-        i = i + 1;
-        j = j + 1;
-    }
-    true
-}
-
-// Whether the fields from `at` on are as many numbers as `into` holds, and no more; then those stand in it.
-fn read_numbers(s: &[u8], at: usize, into: &mut [i64]) -> bool
-    ensures { λ r. ⌜ numbers (length (now (into .entry))) (fieldsAt (now (s .entry)) at) ≡ cond r (are (now (into .exit))) none ⌝ }
-{
-    let mut next = at;
-    let mut i: usize = 0;
-    while i < into.len() {
-        if s.len() < next {
-            return false;
-        }
-        let end = find_byte(s, next, 9);
-        let Number::Is(z) = read_number(s, next, end) else {
-            return false;
-        };
-        into[i] = z;
-        next = end + 1;
-        i = i + 1;
-    }
-    if s.len() < next {
-        return true;
-    }
-    false
-}
-
 // An EXP line's fields from N on.
 fn exp_line(s: &[u8], serial: i64, at: usize) -> Line
     ensures { λ r. ⌜ r ≡ formed (numbers 5 (fieldsAt (now (s .entry)) at)) (expOf serial) ⌝ }
 {
     let mut v = [0i64; 5];
-    if read_numbers(s, at, &mut v) {
+    if reading::read_numbers(s, at, &mut v) {
         let n = v[0];
         let ex = v[1];
         let ey = v[2];
@@ -277,7 +159,7 @@ fn log_line(s: &[u8], serial: i64, at: usize) -> Line
     ensures { λ r. ⌜ r ≡ formed (numbers 3 (fieldsAt (now (s .entry)) at)) (logOf serial) ⌝ }
 {
     let mut v = [0i64; 3];
-    if read_numbers(s, at, &mut v) {
+    if reading::read_numbers(s, at, &mut v) {
         let n = v[0];
         let x = v[1];
         let y = v[2];
@@ -295,7 +177,7 @@ pub fn read_line(s: &[u8]) -> Line
     ensures { λ r. ⌜ r ≡ readLine (now (s .entry)) ⌝ }
 {
     let e = find_byte(s, 0, 9);
-    let Number::Is(serial) = read_number(s, 0, e) else {
+    let Number::Is(serial) = reading::read_number(s, 0, e) else {
         return Line::Malformed;
     };
     if serial < 1 {
@@ -309,10 +191,10 @@ pub fn read_line(s: &[u8]) -> Line
         return Line::Malformed;
     }
     let f = find_byte(s, at, 9);
-    if is_word(s, at, f, b"EXP") {
+    if reading::is_word(s, at, f, b"EXP") {
         return exp_line(s, serial, f + 1);
     }
-    if is_word(s, at, f, b"LOG") {
+    if reading::is_word(s, at, f, b"LOG") {
         return log_line(s, serial, f + 1);
     }
     Line::Malformed

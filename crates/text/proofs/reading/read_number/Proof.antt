@@ -1,4 +1,4 @@
--- `text::read_number` meets its contract: an optional minus, and a size by the digits.
+-- `text::reading::read_number` meets its contract: an optional minus, and a size by the digits.
 use mathlib.Core.Path.{_≡_, sym, ap, _∙_}
 use mathlib.Core.List.{List}
 use Prim.Native.Nat.{ℕ, _-_, _<_, _^_}
@@ -11,8 +11,8 @@ use Rattle.word.specs.Bits.{minus-one}
 use Rattle.text.specs.Decimal.{readNumber, plus, minus}
 use Rattle.text.specs.Scan.{number-none, number-minus, number-plus}
 use Rattle.text.specs.Read.{natural-small}
-use Rattle.text.proofs.read_number.Statement.{statement}
-use Rattle.text.proofs.read_number.Tie as tie
+use Rattle.text.proofs.reading.read_number.Statement.{statement}
+use Rattle.text.proofs.reading.read_number.Tie as tie
 
 -- the bytes to read
 abbrev bytes : tie.Start → List ℕ

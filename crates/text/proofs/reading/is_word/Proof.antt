@@ -4,8 +4,8 @@ use native.Mathlib.Omega.{arith}
 use lib.ListN.{length, drop}
 use lib.Seq.{slice, length-slice}
 use Rattle.text.specs.Fields.{sameBytes, other-length, same-more, same-less, same-end}
-use Rattle.text.proofs.is_word.Statement.{statement}
-use Rattle.text.proofs.is_word.Tie as tie
+use Rattle.text.proofs.reading.is_word.Statement.{statement}
+use Rattle.text.proofs.reading.is_word.Tie as tie
 
 abbrev Inv-loop : tie.InvT-loop
 Inv-loop s from to word i₀ j₀ i j =

@@ -8,8 +8,8 @@ use lib.ListN.{getD}
 use lib.Seq.{slice}
 use Rattle.text.specs.Decimal.{upTo, value, readNatural}
 use Rattle.text.specs.Scan.{oneMore, value-more, value-end, big, read-none, read-lead, read-zero, read-digits}
-use Rattle.text.proofs.read_natural.Statement.{statement}
-use Rattle.text.proofs.read_natural.Tie as tie
+use Rattle.text.proofs.reading.read_natural.Statement.{statement}
+use Rattle.text.proofs.reading.read_natural.Tie as tie
 
 abbrev Inv-loop : tie.InvT-loop
 Inv-loop s from to acc₀ i₀ acc i = (from ≤ i) × (i ≤ to) × (upTo (2 ^ 63) (value acc (slice i to s)) ≡ readNatural (slice from to s))

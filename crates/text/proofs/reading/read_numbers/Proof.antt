@@ -1,4 +1,4 @@
--- `text::read_numbers` meets its contract: a field a turn, and what is read stands in front of what is still to read.
+-- `text::reading::read_numbers` meets its contract: a field a turn, and what is read stands in front of what is still to read.
 use mathlib.Core.Path.{_≡_, refl, sym, _∙_}
 use Prim.Native.Nat.{_≤_, _-_}
 use native.Mathlib.Omega.{arith}
@@ -9,8 +9,8 @@ use Rattle.text.specs.Find.{Ended, ended}
 use Rattle.text.specs.Fields.{fieldsAt}
 use Rattle.text.specs.Line.{numbers}
 use Rattle.text.specs.Parse.{behind, none-read, field-missing, not-number, number-stored, all-read, field-left}
-use Rattle.text.proofs.read_numbers.Statement.{statement}
-use Rattle.text.proofs.read_numbers.Tie as tie
+use Rattle.text.proofs.reading.read_numbers.Statement.{statement}
+use Rattle.text.proofs.reading.read_numbers.Tie as tie
 
 abbrev Inv-loop : tie.InvT-loop
 Inv-loop s at into₀ next₀ i₀ into next i =
