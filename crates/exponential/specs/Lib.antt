@@ -4,7 +4,7 @@
 --   Close            when each refusal is given; the answer is close, with no hypothesis left
 --   Bound, Cases     the error bound is the least whole number it can be; the limits by 01's numbers
 --
--- The argument, over any width F and any table that keeps tables' promise:
+-- The argument, over any width F and any table that keeps the promise (entries, Promise):
 --   Convergence      after n steps each part of the exponent is below 1/2^n in size (Box: one step of one part)
 --   Drift            the rounding's part of the error, floor-share units a step, whatever the digits are (Product: the exact product)
 --   Relative         the product of the factors is the exponential but for 560/99 of 1/2^n (Length: its length; Entry: that of an entry; Gap: algebra)

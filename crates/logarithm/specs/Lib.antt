@@ -4,7 +4,7 @@
 --   Answer                  the refusals and the error bound, the answer for every input, its six numbers, and what it is close to
 --   Laws                    what a caller cites of the answer (its cases that 01 marks P are computed in crate edges)
 --
--- The argument, over any width F up to 48 (one is 2^F units; 01 has F = 48) and any tables that keep the promise of crate tables:
+-- The argument, over any width F up to 48 (one is 2^F units; 01 has F = 48) and any tables that keep the promise (entries, Promise):
 --   Convergence             before each step n from 4 on each part of 2^n·u is at most 3/2 in size, u the point less one
 --   FloorPart               the floors' share of the error, and the length of the product of the factors
 --   TablePart               the tables' share, and the answer's size (Factor: one factor, as algebra)

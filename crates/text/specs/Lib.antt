@@ -1,4 +1,11 @@
--- Numbers, fields and lines of a sheet: how they are read and written, and what a line is answered.
+-- Numbers, fields and lines of a sheet. Read beside 01 (A sheet line; Turned away) in this order:
+--   Decimal, Fields  a number in digits, the fields between tabs
+--   Line             which bytes are a line, and what it asks
+--   Answer           what a line is answered: the refusal, the count and every byte of the buffer
+-- Laws that a caller may cite: Read (a written number is read as itself, and what is read as a number is that number written), Longest (no
+-- line over 116 bytes has the form).
+--
+-- For the code: Put and Layout (writing), Written (how long a number is), Find, Scan and Parse (reading), Call (the answer's parts), Either.
 pub mod Either
 pub mod Put
 pub mod Decimal
