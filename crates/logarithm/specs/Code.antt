@@ -13,8 +13,8 @@ use Rattle.point.specs.Point.{gauss, point}
 use Rattle.entries.specs.declared.Entry.{Entry}
 use Rattle.entries.specs.Rows.{number}
 use Rattle.entries.specs.Table.{stepTable, reciprocalTable}
-use Rattle.logarithm.specs.declared.Turn.{Turn}
-use Rattle.logarithm.specs.declared.State.{State}
+use Rattle.logarithm.specs.declared.reduction.Turn.{Turn}
+use Rattle.logarithm.specs.declared.reduction.State.{State}
 use Rattle.logarithm.specs.declared.Figures.{Figures}
 use Rattle.logarithm.specs.Quadrant.{turned, quadrant, Cone}
 use Rattle.logarithm.specs.Scale.{bit-length}

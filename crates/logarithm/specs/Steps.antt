@@ -23,7 +23,7 @@ use Rattle.entries.specs.Promise.{look}
 use Rattle.entries.specs.Table.{stepTable, reciprocalTable}
 use Rattle.entries.specs.Promise48.{step-promise, reciprocal-promise}
 use Rattle.entries.specs.Rows.{entry, number}
-use Rattle.logarithm.specs.declared.State.{State}
+use Rattle.logarithm.specs.declared.reduction.State.{State}
 use Rattle.logarithm.specs.Quadrant.{turned, cone-pos}
 use Rattle.logarithm.specs.Scale.{bits, bit-length, binary-exponent, scaled, Scaled, scaled-ranges}
 use Rattle.logarithm.specs.Cell.{column, row, cellX, cellY, reciprocalOf, reciprocal-parts, in-table, reduced-near}

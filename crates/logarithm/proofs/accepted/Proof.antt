@@ -8,8 +8,8 @@ use Rattle.algebra.specs.Order.{_⩽_}
 use Rattle.word.specs.Fits.{back, sfits-mag, word-pos}
 use Rattle.point.specs.declared.Point.{Point}
 use Rattle.point.specs.Point.{gauss, point}
-use Rattle.logarithm.specs.declared.Turn.{Turn}
-use Rattle.logarithm.specs.declared.State.{State}
+use Rattle.logarithm.specs.declared.reduction.Turn.{Turn}
+use Rattle.logarithm.specs.declared.reduction.State.{State}
 use Rattle.logarithm.specs.Quadrant.{turned}
 use Rattle.logarithm.specs.Scale.{bits}
 use Rattle.logarithm.specs.Run.{answer, log}

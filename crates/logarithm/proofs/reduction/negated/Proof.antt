@@ -1,10 +1,10 @@
--- `logarithm::negated` meets its contract.
+-- `logarithm::reduction::negated` meets its contract.
 use borrow.Author.Needs.{needs}
 use Rattle.algebra.specs.Gauss.{negᵍ}
 use Rattle.word.specs.Fits.{back, zero-sub}
 use Rattle.point.specs.Fits.{point-fits}
-use Rattle.logarithm.proofs.negated.Statement.{statement}
-use Rattle.logarithm.proofs.negated.Tie as tie
+use Rattle.logarithm.proofs.reduction.negated.Statement.{statement}
+use Rattle.logarithm.proofs.reduction.negated.Tie as tie
 
 sub-t4 : tie.Need-sub-t4
 sub-t4 c = let f = point-fits (c .before .before .pre) in search needs

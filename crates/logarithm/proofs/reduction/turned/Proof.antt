@@ -1,12 +1,12 @@
--- `logarithm::turned` meets its contract: it makes the tests of the definition, one after the other.
+-- `logarithm::reduction::turned` meets its contract: it makes the tests of the definition, one after the other.
 use mathlib.Core.Path.{_≡_, refl, sym, _∙_, ap}
 use mathlib.Core.Bool.{false}
 use borrow.Author.Needs.{needs}
 use Rattle.point.specs.Point.{gauss, point}
 use Rattle.logarithm.specs.Quadrant.{inCone, turn-back, turns-back, spelling, quarters-by, parts-turn-back}
 use Rattle.logarithm.specs.Fits.{turn-made}
-use Rattle.logarithm.proofs.turned.Statement.{statement}
-use Rattle.logarithm.proofs.turned.Tie as tie
+use Rattle.logarithm.proofs.reduction.turned.Statement.{statement}
+use Rattle.logarithm.proofs.reduction.turned.Tie as tie
 
 in-cone-requires : tie.Need-in-cone-requires
 in-cone-requires c κs = search needs

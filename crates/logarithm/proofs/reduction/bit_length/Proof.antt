@@ -1,12 +1,12 @@
--- `logarithm::bit_length` meets its contract.
+-- `logarithm::reduction::bit_length` meets its contract.
 use native.Mathlib.Omega.{arith}
 use lib.Count.{leading-le}
 use lib.IntN.{natAbs}
 use Rattle.word.specs.Fits.{back}
 use Rattle.logarithm.specs.Scale.{bits-zeros}
 use Rattle.logarithm.specs.Fits.{cast-fits, natAbs-pos}
-use Rattle.logarithm.proofs.bit_length.Statement.{statement}
-use Rattle.logarithm.proofs.bit_length.Tie as tie
+use Rattle.logarithm.proofs.reduction.bit_length.Statement.{statement}
+use Rattle.logarithm.proofs.reduction.bit_length.Tie as tie
 
 cast-zeros : tie.Need-cast-zeros
 cast-zeros c = simp (back, c .fits .x) (cast-fits (c .args .x) (c .pre) (c .fits .x))

@@ -1,11 +1,11 @@
--- `logarithm::scaled` meets its contract.
+-- `logarithm::reduction::scaled` meets its contract.
 use native.Mathlib.Omega.{arith}
 use borrow.Author.Needs.{needs}
 use Rattle.word.specs.Fits.{back}
 use Rattle.word.specs.Shift.{shift-left}
 use Rattle.logarithm.specs.Fits.{scale-up, scale-down, scale-length}
-use Rattle.logarithm.proofs.scaled.Statement.{statement}
-use Rattle.logarithm.proofs.scaled.Tie as tie
+use Rattle.logarithm.proofs.reduction.scaled.Statement.{statement}
+use Rattle.logarithm.proofs.reduction.scaled.Tie as tie
 
 cast-t9 : tie.Need-cast-t9
 cast-t9 c = search needs

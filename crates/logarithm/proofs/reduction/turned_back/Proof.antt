@@ -1,12 +1,12 @@
--- `logarithm::turned_back` meets its contract.
+-- `logarithm::reduction::turned_back` meets its contract.
 use mathlib.Core.Path.{_∙_, ap}
 use borrow.Author.Needs.{needs}
 use Rattle.algebra.specs.Gauss.{iᵍ, conj, _*ᵍ_}
 use Rattle.point.specs.Point.{gauss, point}
 use Rattle.logarithm.specs.Quadrant.{turn-back-is}
 use Rattle.logarithm.specs.Fits.{parts-conj, parts-i}
-use Rattle.logarithm.proofs.turned_back.Statement.{statement}
-use Rattle.logarithm.proofs.turned_back.Tie as tie
+use Rattle.logarithm.proofs.reduction.turned_back.Statement.{statement}
+use Rattle.logarithm.proofs.reduction.turned_back.Tie as tie
 
 conjugate-requires : tie.Need-conjugate-requires
 conjugate-requires c κs = search needs

@@ -1,4 +1,4 @@
--- `logarithm::in_cone` meets its contract.
+-- `logarithm::reduction::in_cone` meets its contract.
 use mathlib.Core.Path.{_≡_, sym, _∙_, ap, ap₂}
 use mathlib.Core.Bool.{true, false, _&&_}
 use lib.IntN.{pos, _-ℤ_}
@@ -6,8 +6,8 @@ use lib.Signed.{ltZ, leZ}
 use borrow.Author.Needs.{needs}
 use Rattle.word.specs.Fits.{back, zero-sub}
 use Rattle.point.specs.Fits.{point-fits}
-use Rattle.logarithm.proofs.in_cone.Statement.{statement}
-use Rattle.logarithm.proofs.in_cone.Tie as tie
+use Rattle.logarithm.proofs.reduction.in_cone.Statement.{statement}
+use Rattle.logarithm.proofs.reduction.in_cone.Tie as tie
 
 sub-if1 : tie.Need-sub-if1
 sub-if1 c = let f = point-fits (c .before .before .pre) in search needs

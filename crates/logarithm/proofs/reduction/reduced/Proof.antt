@@ -1,11 +1,11 @@
--- `logarithm::reduced` meets its contract.
+-- `logarithm::reduction::reduced` meets its contract.
 use borrow.Author.Needs.{needs}
 use Rattle.algebra.specs.Gauss.{_*ᵍ_}
 use Rattle.algebra.specs.Parts.{floorᵍ}
 use Rattle.word.specs.Fits.{back}
 use Rattle.logarithm.specs.Fits.{ReduceFits, reduce-fits}
-use Rattle.logarithm.proofs.reduced.Statement.{statement}
-use Rattle.logarithm.proofs.reduced.Tie as tie
+use Rattle.logarithm.proofs.reduction.reduced.Statement.{statement}
+use Rattle.logarithm.proofs.reduction.reduced.Tie as tie
 
 abbrev facts : (c : tie.After-struct-told4) → let s = c .before .before .before .before in ReduceFits (s .args .p) (s .args .c)
 facts c = reduce-fits (c .before .before .before .before .pre)

@@ -1,4 +1,4 @@
--- `logarithm::begun` meets its contract: the cell that it finds is that of the definition, so the tables' promises speak of it.
+-- `logarithm::reduction::begun` meets its contract: the cell that it finds is that of the definition, so the tables' promises speak of it.
 use mathlib.Core.Path.{_≡_, sym, _∙_, ap, ap₂, subst, subst₂}
 use Prim.Native.Nat.{_^_}
 use lib.IntN.{ℤ}
@@ -20,8 +20,8 @@ use Rattle.logarithm.specs.Scale.{scaled}
 use Rattle.logarithm.specs.Cell.{column, row, cellX, cellY, reciprocalOf, reduced}
 use Rattle.logarithm.specs.Code.{ReducePre}
 use Rattle.logarithm.specs.Steps.{in-cell, reduce-ok, log-parts}
-use Rattle.logarithm.proofs.begun.Statement.{statement}
-use Rattle.logarithm.proofs.begun.Tie as tie
+use Rattle.logarithm.proofs.reduction.begun.Statement.{statement}
+use Rattle.logarithm.proofs.reduction.begun.Tie as tie
 
 -- a part of the scaled point in cells, as the code has it
 abbrev cells : ℤ → ℤ

@@ -1,0 +1,152 @@
+// The reduction of a point (01, LOG): turned into a cone, scaled, and brought near one by the reciprocal of its cell.
+ghost use mathlib.Core.Path.{_≡_};
+ghost use lib.IntN.{natAbs, pos};
+ghost use Rattle.algebra.specs.Gauss.{_*ᵍ_, negᵍ};
+ghost use Rattle.algebra.specs.Order.{_⩽_};
+ghost use Rattle.algebra.specs.Power.{two};
+ghost use Rattle.algebra.specs.Parts.{Parts, floorᵍ};
+ghost use Rattle.point.specs.Point.{gauss, point};
+ghost use Rattle.entries.specs.Rows.{number};
+ghost use Rattle.logarithm.specs.Quadrant.{inCone, turn-back};
+ghost use Rattle.logarithm.specs.Scale.{bits, scaled};
+ghost use Rattle.logarithm.specs.Code.{turnOf, ScalePre, ReducePre, begunOf};
+use entries::Entry;
+use point::Point;
+
+// ---- the turn
+
+// A point turned into the cone -x < y <= x, and the quarter turns that lead from there back.
+pub struct Turn {
+    pub point: Point,
+    pub quadrant: i64,
+}
+
+pub fn in_cone(p: Point) -> bool
+    requires { ⌜ Parts (gauss p) (two 61) ⌝ }
+    ensures { λ r. ⌜ r ≡ inCone (gauss p) ⌝ }
+{
+    let x = p.x;
+    let y = p.y;
+    if -x < y { y <= x } else { false }
+}
+
+pub fn turned_back(p: Point) -> Point
+    requires { ⌜ Parts (gauss p) (two 61) ⌝ }
+    ensures { λ r. ⌜ r ≡ point (turn-back (gauss p)) ⌝ }
+{
+    p.conjugate().quarter_turn().conjugate()
+}
+
+pub fn turned(p: Point) -> Turn
+    requires { ⌜ Parts (gauss p) (two 61) ⌝ }
+    ensures { λ r. ⌜ r ≡ turnOf p ⌝ }
+{
+    if in_cone(p) {
+        return Turn {
+            point: p,
+            quadrant: 0,
+        };
+    }
+    let p1 = turned_back(p);
+    if in_cone(p1) {
+        return Turn {
+            point: p1,
+            quadrant: 1,
+        };
+    }
+    let p2 = turned_back(p1);
+    if in_cone(p2) {
+        return Turn {
+            point: p2,
+            quadrant: 2,
+        };
+    }
+    let p3 = turned_back(p2);
+    Turn {
+        point: p3,
+        quadrant: 3,
+    }
+}
+
+// ---- the scale
+
+pub fn bit_length(x: i64) -> usize
+    requires { ⌜ pos 1 ⩽ x ⌝ }
+    ensures { λ r. ⌜ r ≡ bits (natAbs x) ⌝ }
+{
+    let zeros = u64::leading_zeros(x as u64);
+    64 - (zeros as usize)
+}
+
+// w over 2^(b - 48), b being the length of its x: exactly, or by floor.
+pub fn scaled(w: Point, b: usize) -> Point
+    requires { ⌜ ScalePre w b ⌝ }
+    ensures { λ r. ⌜ r ≡ point (scaled 48 (gauss w)) ⌝ }
+{
+    let x = w.x;
+    let y = w.y;
+    if b <= 48 {
+        let up = 48 - b;
+        Point {
+            x: x << up,
+            y: y << up,
+        }
+    } else {
+        let down = b - 48;
+        Point {
+            x: x >> down,
+            y: y >> down,
+        }
+    }
+}
+
+// ---- the reciprocal
+
+// Times a reciprocal in 64ths, each part by floor.
+pub fn reduced(p: Point, c: Entry) -> Point
+    requires { ⌜ ReducePre p c ⌝ }
+    ensures { λ r. ⌜ r ≡ point (floorᵍ (number c *ᵍ gauss p) 64) ⌝ }
+{
+    let x = p.x;
+    let y = p.y;
+    let a = c.re;
+    let b = c.im;
+    let re = a * x - b * y;
+    let im = a * y + b * x;
+    Point {
+        x: re >> 6,
+        y: im >> 6,
+    }
+}
+
+pub fn negated(t: Entry) -> Point
+    requires { ⌜ Parts (number t) (two 61) ⌝ }
+    ensures { λ r. ⌜ r ≡ point (negᵍ (number t)) ⌝ }
+{
+    let re = t.re;
+    let im = t.im;
+    Point { x: -re, y: -im }
+}
+
+// The point that the steps move to one, and the answer so far.
+pub struct State {
+    pub point: Point,
+    pub answer: Point,
+}
+
+// The turned point scaled and brought near one, and minus the logarithm of the reciprocal; a cell is 2^44 units wide.
+pub fn begun(w: Point, b: usize) -> State
+    requires { ⌜ ScalePre w b ⌝ }
+    ensures { λ r. ⌜ r ≡ begunOf w ⌝ }
+{
+    let p = scaled(w, b);
+    let x = p.x;
+    let y = p.y;
+    let column = x >> 44;
+    let row = y >> 44;
+    let c = tables::reciprocal(column, row);
+    let l = tables::reciprocal_log(column, row);
+    let point = reduced(p, c);
+    let answer = negated(l);
+    State { point, answer }
+}
