@@ -21,7 +21,7 @@ pub struct Turn {
     pub quadrant: i64,
 }
 
-pub fn in_cone(p: Point) -> bool
+fn in_cone(p: Point) -> bool
     requires { ⌜ Parts (gauss p) (two 61) ⌝ }
     ensures { λ r. ⌜ r ≡ inCone (gauss p) ⌝ }
 {
@@ -30,7 +30,7 @@ pub fn in_cone(p: Point) -> bool
     if -x < y { y <= x } else { false }
 }
 
-pub fn turned_back(p: Point) -> Point
+fn turned_back(p: Point) -> Point
     requires { ⌜ Parts (gauss p) (two 61) ⌝ }
     ensures { λ r. ⌜ r ≡ point (turn-back (gauss p)) ⌝ }
 {
@@ -79,7 +79,7 @@ pub fn bit_length(x: i64) -> usize
 }
 
 // w over 2^(b - 48), b being the length of its x: exactly, or by floor.
-pub fn scaled(w: Point, b: usize) -> Point
+fn scaled(w: Point, b: usize) -> Point
     requires { ⌜ ScalePre w b ⌝ }
     ensures { λ r. ⌜ r ≡ point (scaled 48 (gauss w)) ⌝ }
 {
@@ -103,7 +103,7 @@ pub fn scaled(w: Point, b: usize) -> Point
 // ---- the reciprocal
 
 // Times a reciprocal in 64ths, each part by floor.
-pub fn reduced(p: Point, c: Entry) -> Point
+fn reduced(p: Point, c: Entry) -> Point
     requires { ⌜ ReducePre p c ⌝ }
     ensures { λ r. ⌜ r ≡ point (floorᵍ (number c *ᵍ gauss p) 64) ⌝ }
 {
@@ -119,7 +119,7 @@ pub fn reduced(p: Point, c: Entry) -> Point
     }
 }
 
-pub fn negated(t: Entry) -> Point
+fn negated(t: Entry) -> Point
     requires { ⌜ Parts (number t) (two 61) ⌝ }
     ensures { λ r. ⌜ r ≡ point (negᵍ (number t)) ⌝ }
 {

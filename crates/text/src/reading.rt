@@ -9,7 +9,7 @@ ghost use Rattle.text.specs.Fields.{fieldsAt, sameBytes};
 ghost use Rattle.text.specs.Line.{numbers, are, none};
 
 // A size that stands in a field, or none.
-pub enum Natural {
+enum Natural {
     Is(u64),
     Not,
 }
@@ -21,7 +21,7 @@ pub enum Number {
 }
 
 // The size whose digits stand from `from` up to `to`.
-pub fn read_natural(s: &[u8], from: usize, to: usize) -> Natural
+fn read_natural(s: &[u8], from: usize, to: usize) -> Natural
     requires { ⌜ (from ≤ to) × (to ≤ length (now s)) ⌝ }
     ensures { λ r. ⌜ r ≡ readNatural (slice from to (now (s .entry))) ⌝ }
 {
