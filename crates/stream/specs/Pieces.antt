@@ -8,7 +8,7 @@ use lib.Dec.{ltb, eqb}
 use lib.ListN.{length, take}
 use lib.Seq.{take-all, take-append-le, take-take, length-take-le}
 use borrow.Author.Tests.{ltb-true, ltb-false, ne-eqb}
-use Rattle.text.specs.Either.{either}
+use Rattle.scan.specs.Either.{either}
 use Rattle.text.specs.Fields.{split}
 use Rattle.text.specs.Longest.{too-long}
 use Rattle.text.specs.Answer.{reply}

@@ -8,8 +8,8 @@ use lib.Dec.{ltb, eqb}
 use lib.ListN.{length, getD, take, drop, take-append-drop, drop-of-length-le}
 use lib.Seq.{slice, take-take, take-suc, drop-cons, length-slice}
 use borrow.Author.Tests.{lt-ltb, le-ltb, ne-eqb}
-use Rattle.text.specs.Either.{either}
-use Rattle.text.specs.Find.{Without, Ended, parted}
+use Rattle.scan.specs.Either.{either}
+use Rattle.scan.specs.Find.{Without, Ended, parted}
 use Rattle.text.specs.Put.{Put, nothing, then, to-front}
 use Rattle.stream.specs.Sheet.{answered, said, left, taken}
 use Rattle.stream.specs.Pieces.{left-append, said-append}

@@ -111,7 +111,7 @@ pub fn feed(h: Held, piece: &[u8], out: &mut [u8]) -> Fed
     let mut i: usize = 0;
     let mut written: usize = 0;
     while i < piece.len() {
-        let end = text::find_byte(piece, i, 10);
+        let end = scan::find_byte(piece, i, 10);
         if end == piece.len() {
             return Fed {
                 held: extended(held, piece, i, end),

@@ -19,7 +19,7 @@ use Rattle.point.specs.Limits.{inSteps}
 use Rattle.logarithm.specs.Answer.{unless, answerTo, logAnswer}
 use Rattle.logarithm.specs.declared.Answer.{Answer}
 use Rattle.logarithm.specs.declared.Answer.the-variants.{Answered, Refused}
-use Rattle.text.specs.Either.{either}
+use Rattle.scan.specs.Either.{either}
 use Rattle.text.specs.Decimal.{showNumber, readNumber}
 use Rattle.text.specs.Written.{short-range}
 use Rattle.text.specs.Fields.{fields, sameBytes}

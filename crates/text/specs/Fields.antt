@@ -9,8 +9,8 @@ use lib.Dec.{ltb, eqb}
 use lib.ListN.{length, getD, drop, drop-of-length-le}
 use lib.Seq.{slice, drop-cons, slice-cons, slice-empty}
 use borrow.Author.Tests.{lt-ltb, le-ltb, ltb-true, ltb-false, ne-eqb, eq-eqb}
-use Rattle.text.specs.Either.{either}
-use Rattle.text.specs.Find.{Without, Ended, parted}
+use Rattle.scan.specs.Either.{either}
+use Rattle.scan.specs.Find.{Without, Ended, parted}
 
 -- the parts that a mark parts, the first one behind what was already read of it
 unfoldable pub split : ℕ → List ℕ → List ℕ → List (List ℕ)

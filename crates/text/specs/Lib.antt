@@ -5,14 +5,12 @@
 -- Laws that a caller may cite: Read (a written number is read as itself, and what is read as a number is that number written), Longest (no
 -- line over 116 bytes has the form).
 --
--- For the code: Put and Layout (writing), Written (how long a number is), Find, Scan and Parse (reading), Call (the answer's parts), Either.
-pub mod Either
+-- For the code: Put and Layout (writing), Written (how long a number is), Scan and Parse (reading), Call (the answer's parts).
 pub mod Put
 pub mod Decimal
 pub mod Written
 pub mod Read
 pub mod Scan
-pub mod Find
 pub mod Fields
 pub mod Line
 pub mod Longest

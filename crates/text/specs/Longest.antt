@@ -7,7 +7,7 @@ use native.Mathlib.Omega.{arith}
 use lib.Dec.{T, eqb, lit<}
 use lib.IntN.{ℤ}
 use lib.ListN.{length, length-append}
-use Rattle.text.specs.Either.{either}
+use Rattle.scan.specs.Either.{either}
 use Rattle.text.specs.Decimal.{readNumber}
 use Rattle.text.specs.Written.{short-range}
 use Rattle.text.specs.Read.{number-is, number-length}

@@ -9,7 +9,7 @@ use lib.IntN.{ℤ}
 use lib.ListN.{length, take, set}
 use lib.Seq.{slice, take-suc-set, take-all}
 use Rattle.text.specs.Decimal.{readNumber}
-use Rattle.text.specs.Find.{Ended}
+use Rattle.scan.specs.Find.{Ended}
 use Rattle.text.specs.Fields.{sameBytes, fieldsAt, field-parts, no-field, first-field, some-field}
 use Rattle.text.specs.Line.{EXP, LOG, Numbers, are, none, inFront, numbers, formed, expOf, logOf, kindLine, serialLine, lineOf, readLine}
 use Rattle.text.specs.declared.reading.Number.the-variants as num

@@ -12,7 +12,7 @@ use lib.ListN.{length}
 use mir.Syntax.{w64}
 use mir.Val.{SFits}
 use borrow.Author.Tests.{lt-ltb, le-ltb, ltb-false, ne-eqb, eqb-true, eqb-false, le-leb, leb-true}
-use Rattle.text.specs.Either.{either}
+use Rattle.scan.specs.Either.{either}
 use Rattle.text.specs.Decimal.{showNatural, showNumber, value, upTo, readNatural, readNumber, plus, minus}
 use Rattle.text.specs.Written.{digits-ind, digits-one, digits-more, small-or, short-number}
 use Rattle.text.specs.declared.reading.Natural.{Natural}

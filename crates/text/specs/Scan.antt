@@ -9,7 +9,7 @@ use lib.Dec.{ltb}
 use lib.ListN.{length, getD}
 use lib.Seq.{slice, slice-cons, slice-empty, length-slice}
 use borrow.Author.Tests.{lt-ltb, le-ltb, eq-eqb, ne-eqb, lt-leb}
-use Rattle.text.specs.Either.{either}
+use Rattle.scan.specs.Either.{either}
 use Rattle.text.specs.Decimal.{value, upTo, readNatural, readNumber, plus, minus}
 use Rattle.text.specs.declared.reading.Natural.{Natural}
 use Rattle.text.specs.declared.reading.Natural.the-variants as nat

@@ -15,7 +15,7 @@ use mir.Val.{SFits}
 use borrow.Author.Tests.{lt-ltb, le-ltb, ltb-true, ltb-false}
 use Rattle.algebra.specs.Order.{_⩽_}
 use Rattle.word.specs.Compare.{between, between-true}
-use Rattle.text.specs.Either.{either}
+use Rattle.scan.specs.Either.{either}
 use Rattle.text.specs.Decimal.{digits, showNatural, showNumber}
 
 pub small-or : (v : ℕ) → (v < 10) ⊎ (10 ≤ v)

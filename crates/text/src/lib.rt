@@ -5,7 +5,6 @@ ghost use lib.IntN.{natAbs};
 ghost use lib.ListN.{length};
 ghost use Rattle.text.specs.Put.{Put, Front};
 ghost use Rattle.text.specs.Decimal.{showNatural, showNumber};
-ghost use Rattle.text.specs.Find.{findByte};
 ghost use Rattle.text.specs.Fields.{fieldsAt};
 ghost use Rattle.text.specs.Line.{IsSerial, numbers, formed, expOf, logOf, readLine};
 ghost use Rattle.text.specs.Answer.{fieldBytes, lineBytes, refusedReply, replyOf, Replied, refusalOf, countOf, outOf};
@@ -119,20 +118,6 @@ fn put_line(serial: i64, word: &[u8], fields: &[i64], out: &mut [u8]) -> usize
 
 // ---- reading
 
-// Where `byte` stands first in s from `from` on, or the end of s; behind the end, `from`.
-pub fn find_byte(s: &[u8], from: usize, byte: u8) -> usize
-    ensures { λ r. ⌜ r ≡ findByte byte (now (s .entry)) from ⌝ }
-{
-    let mut i = from;
-    while i < s.len() {
-        if s[i] == byte {
-            return i;
-        }
-        i = i + 1;
-    }
-    i
-}
-
 // An EXP line's fields from N on.
 fn exp_line(s: &[u8], serial: i64, at: usize) -> Line
     ensures { λ r. ⌜ r ≡ formed (numbers 5 (fieldsAt (now (s .entry)) at)) (expOf serial) ⌝ }
@@ -176,7 +161,7 @@ fn log_line(s: &[u8], serial: i64, at: usize) -> Line
 pub fn read_line(s: &[u8]) -> Line
     ensures { λ r. ⌜ r ≡ readLine (now (s .entry)) ⌝ }
 {
-    let e = find_byte(s, 0, 9);
+    let e = scan::find_byte(s, 0, 9);
     let Number::Is(serial) = reading::read_number(s, 0, e) else {
         return Line::Malformed;
     };
@@ -190,7 +175,7 @@ pub fn read_line(s: &[u8]) -> Line
     if s.len() < at {
         return Line::Malformed;
     }
-    let f = find_byte(s, at, 9);
+    let f = scan::find_byte(s, at, 9);
     if reading::is_word(s, at, f, b"EXP") {
         return exp_line(s, serial, f + 1);
     }

@@ -113,7 +113,7 @@ pub fn read_numbers(s: &[u8], at: usize, into: &mut [i64]) -> bool
         if s.len() < next {
             return false;
         }
-        let end = crate::find_byte(s, next, 9);
+        let end = scan::find_byte(s, next, 9);
         let Number::Is(z) = read_number(s, next, end) else {
             return false;
         };

@@ -6,7 +6,7 @@ use native.Mathlib.Omega.{arith}
 use lib.ListN.{length, take, drop}
 use lib.Seq.{slice}
 use borrow.Rule.Slice.PartMut.{midOf, putMid}
-use Rattle.text.specs.Find.{part-slice}
+use Rattle.scan.specs.Find.{part-slice}
 use Rattle.stream.specs.Sheet.{answered}
 use Rattle.stream.specs.Pieces.{cut-answered}
 use Rattle.stream.specs.State.{line, Answered, answered-front, part-room, part-answered}

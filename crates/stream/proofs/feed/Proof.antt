@@ -7,7 +7,7 @@ use borrow.Author.Needs.{needs}
 use lib.ListN.{length, take}
 use lib.Seq.{slice-empty}
 use Rattle.text.specs.Put.{kept}
-use Rattle.text.specs.Find.{Ended, ended}
+use Rattle.scan.specs.Find.{Ended, ended}
 use Rattle.stream.specs.Progress.{Reached, begin, scanned, line-answered, at-end, no-room, stopped}
 use Rattle.stream.specs.State.{line}
 use Rattle.stream.proofs.feed.Statement.{statement}

@@ -11,7 +11,7 @@ use mir.Val.{SFits}
 use Rattle.algebra.specs.Order.{_⩽_, _⋖_}
 use Rattle.word.specs.Fits.{back, sfits-mag}
 use Rattle.word.specs.Compare.{ltZ-true, ltZ-false, between, is-between, below-between, above-between}
-use Rattle.text.specs.Find.{Ended, ended}
+use Rattle.scan.specs.Find.{Ended, ended}
 use Rattle.text.specs.Fields.{fieldsAt, sameBytes, same-word}
 use Rattle.text.specs.Line.{EXP, LOG, readLine, serialLine, kindLine}
 use Rattle.text.specs.Parse.{serial-field, kind-missing, kind-field, byKind}

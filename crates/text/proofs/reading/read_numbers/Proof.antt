@@ -5,7 +5,7 @@ use native.Mathlib.Omega.{arith}
 use borrow.Author.Needs.{needs}
 use lib.ListN.{length, take, length-set}
 use Rattle.word.specs.Fits.{back, sfits-mag}
-use Rattle.text.specs.Find.{Ended, ended}
+use Rattle.scan.specs.Find.{Ended, ended}
 use Rattle.text.specs.Fields.{fieldsAt}
 use Rattle.text.specs.Line.{numbers}
 use Rattle.text.specs.Parse.{behind, none-read, field-missing, not-number, number-stored, all-read, field-left}

@@ -9,7 +9,7 @@ use lib.Dec.{eqb}
 use lib.ListN.{length, getD, take, drop, length-drop, take-append-drop, drop-of-length-le}
 use lib.Seq.{slice, drop-cons, take-nil, drop-append-le, length-take-le, getD-drop}
 use borrow.Author.Tests.{eq-eqb, ne-eqb, eqb-true, eqb-false}
-use Rattle.text.specs.Either.{either}
+use Rattle.scan.specs.Either.{either}
 
 -- how many bytes stand before the first m: all of them, where there is none
 unfoldable pub before : ℕ → List ℕ → ℕ

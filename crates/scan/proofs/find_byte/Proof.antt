@@ -1,11 +1,11 @@
--- `text::find_byte` meets its contract: from each place on, the byte is found where it is found from `from` on.
+-- `scan::find_byte` meets its contract: from each place on, the byte is found where it is found from `from` on.
 use mathlib.Core.Path.{_≡_, refl, sym, _∙_}
 use Prim.Native.Nat.{_-_}
 use native.Mathlib.Omega.{arith}
 use lib.ListN.{length}
-use Rattle.text.specs.Find.{findByte, found-here, found-later, found-none}
-use Rattle.text.proofs.find_byte.Statement.{statement}
-use Rattle.text.proofs.find_byte.Tie as tie
+use Rattle.scan.specs.Find.{findByte, found-here, found-later, found-none}
+use Rattle.scan.proofs.find_byte.Statement.{statement}
+use Rattle.scan.proofs.find_byte.Tie as tie
 
 abbrev Inv-loop : tie.InvT-loop
 Inv-loop s from byte i₀ i = findByte byte s i ≡ findByte byte s from
