@@ -6,7 +6,7 @@ ghost use lib.ListN.{length};
 ghost use Rattle.text.specs.Put.{Put, Front};
 ghost use Rattle.text.specs.Decimal.{showNatural, showNumber};
 ghost use Rattle.text.specs.Fields.{fieldsAt};
-ghost use Rattle.text.specs.Line.{IsSerial, numbers, formed, expOf, logOf, readLine};
+ghost use Rattle.text.specs.Line.{IsSerial, numbers, formed, expOf, logOf, kindLine, readLine};
 ghost use Rattle.text.specs.Answer.{fieldBytes, lineBytes, refusedReply, replyOf, Replied, refusalOf, countOf, outOf};
 use point::Point;
 use reading::Number;
@@ -157,6 +157,23 @@ fn log_line(s: &[u8], serial: i64, at: usize) -> Line
     Line::Malformed
 }
 
+// A line's fields from its kind on.
+fn kind_line(s: &[u8], serial: i64, at: usize) -> Line
+    ensures { λ r. ⌜ r ≡ kindLine serial (fieldsAt (now (s .entry)) at) ⌝ }
+{
+    if s.len() < at {
+        return Line::Malformed;
+    }
+    let f = scan::find_byte(s, at, 9);
+    if reading::is_word(s, at, f, b"EXP") {
+        return exp_line(s, serial, f + 1);
+    }
+    if reading::is_word(s, at, f, b"LOG") {
+        return log_line(s, serial, f + 1);
+    }
+    Line::Malformed
+}
+
 // The line that bytes are, which come without their newline.
 pub fn read_line(s: &[u8]) -> Line
     ensures { λ r. ⌜ r ≡ readLine (now (s .entry)) ⌝ }
@@ -171,18 +188,7 @@ pub fn read_line(s: &[u8]) -> Line
     if 9999999 < serial {
         return Line::Malformed;
     }
-    let at = e + 1;
-    if s.len() < at {
-        return Line::Malformed;
-    }
-    let f = scan::find_byte(s, at, 9);
-    if reading::is_word(s, at, f, b"EXP") {
-        return exp_line(s, serial, f + 1);
-    }
-    if reading::is_word(s, at, f, b"LOG") {
-        return log_line(s, serial, f + 1);
-    }
-    Line::Malformed
+    kind_line(s, serial, e + 1)
 }
 
 // ---- answering: each into a buffer with room, from its front
