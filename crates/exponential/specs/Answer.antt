@@ -21,7 +21,7 @@ use Rattle.exponential.specs.declared.Figures.{Figures}
 use Rattle.exponential.specs.declared.Answer.{Answer}
 use Rattle.exponential.specs.declared.Answer.the-variants.{Answered, Refused}
 use Rattle.exponential.specs.Run.{run}
-use Rattle.exponential.specs.Drift.{floor-share}
+use Rattle.iteration.specs.Drift.{floor-share}
 
 -- ---- the limits, all ends included (one is 2^F units; 01 has F = 48): "N is 1 to 40" is inSteps F 1, and "Each start part is at most 2^58
 -- in size" is inParts F (point, Limits)

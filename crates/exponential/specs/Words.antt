@@ -21,7 +21,7 @@ use Rattle.word.specs.Fits.{sfits-size}
 use Rattle.word.specs.Shift.{shift-constant-word, size-shift}
 use Rattle.point.specs.Digit.{Trit, trit-size}
 use Rattle.exponential.specs.Select.{low-x, high-x, low-y, high-y}
-use Rattle.exponential.specs.Drift.{floor-share}
+use Rattle.iteration.specs.Drift.{floor-share}
 use Rattle.exponential.specs.Answer.{errorBound}
 
 -- ---- the thresholds of step n are those of one, shifted

@@ -31,7 +31,7 @@ use Rattle.logarithm.specs.Cell.{column, row, in-table, reduced-near}
 use Rattle.logarithm.specs.Select.{half}
 use Rattle.logarithm.specs.Run.{index, point-at, begun, begun-answer, answer, remainder, log}
 use Rattle.logarithm.specs.Convergence.{converges, converges-times}
-use Rattle.logarithm.specs.TablePart.{answer-size, log-within}
+use Rattle.logarithm.specs.Size.{answer-size, log-within}
 use Rattle.logarithm.specs.Closeness.{log-close}
 use Rattle.logarithm.specs.Answer.{isZero, errorBound, unless, figures, answerTo, logAnswer, Close, CloseAt}
 

@@ -30,7 +30,7 @@ use Rattle.logarithm.specs.Cell.{column, row, cellX, cellY, reciprocalOf
 use Rattle.logarithm.specs.Select.{half, select}
 use Rattle.logarithm.specs.Run.{index, point-at, digit-at, answer-at}
 use Rattle.logarithm.specs.Convergence.{point-size}
-use Rattle.logarithm.specs.TablePart.{entry-within, answer-size, log-within}
+use Rattle.logarithm.specs.Size.{entry-within, answer-size, log-within}
 use Rattle.logarithm.specs.Answer.{errorBound}
 use Rattle.logarithm.specs.Laws.{Accepted, cone, M-is}
 use Rattle.logarithm.specs.Code.{ScalePre, ReducePre, begunOf, SelectPre, LessPre, RunPre, BoundPre, boundAt}

@@ -8,7 +8,7 @@ use mir.Syntax.{w64}
 use mir.Val.{toZ, ofZ}
 use Rattle.word.specs.Fits.{back, word-pos}
 use Rattle.point.specs.Point.{gauss}
-use Rattle.exponential.specs.Drift.{floor-share}
+use Rattle.iteration.specs.Drift.{floor-share}
 use Rattle.exponential.specs.Words.{BoundFits, bound-fits, bound-is}
 use borrow.Author.Needs.{needs}
 use Rattle.exponential.proofs.error_bound.Statement.{statement}
