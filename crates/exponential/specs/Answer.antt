@@ -13,15 +13,17 @@ use Rattle.series.specs.Series.{Sᵍ, Dᵍ, Dᶻ}
 use Rattle.point.specs.declared.Refusal.{Refusal}
 use Rattle.point.specs.declared.Refusal.the-variants.{Steps, Exponent, Part}
 use Rattle.point.specs.Refusal.{refusalNumber}
-use Rattle.point.specs.Point.{gauss, point}
+use Rattle.point.specs.Point.{gauss}
 use Rattle.point.specs.Limits.{inSteps, inBox, inParts}
 use Rattle.entries.specs.Promise.{StepTable}
 use Rattle.entries.specs.Table.{stepTable}
 use Rattle.exponential.specs.declared.Figures.{Figures}
 use Rattle.exponential.specs.declared.Answer.{Answer}
 use Rattle.exponential.specs.declared.Answer.the-variants.{Answered, Refused}
-use Rattle.exponential.specs.Run.{run}
-use Rattle.iteration.specs.Drift.{floor-share}
+use Rattle.iteration.specs.declared.State.{State}
+use Rattle.iteration.specs.declared.Mode.the-variants.{Exp}
+use Rattle.iteration.specs.State.{state, run}
+use Rattle.iteration.specs.Drift.{rounding-share}
 
 -- ---- the limits, all ends included (one is 2^F units; 01 has F = 48): "N is 1 to 40" is inSteps F 1, and "Each start part is at most 2^58
 -- in size" is inParts F (point, Limits)
@@ -32,7 +34,7 @@ inRectangle F e = inBox (negℤ (pos 53 *ℤ two (F - 6))) (pos 55 *ℤ two (F -
 -- ---- the error bound, the "column" of 01
 -- "8M/2^N rounded up to a whole number, plus 3N"
 unfoldable pub errorBound : ℕ → 𝔾 → ℤ
-errorBound n s = ceiling (pos 8 *ℤ larger s) (2 ^ n) +ℤ floor-share *ℤ pos n
+errorBound n s = ceiling (pos 8 *ℤ larger s) (2 ^ n) +ℤ rounding-share *ℤ pos n
 
 -- ---- the answer for every input
 -- turned away with r, unless the test holds
@@ -41,8 +43,13 @@ unless true r a = a
 unless false r a = Refused r
 
 module _ (F : ℕ) (t : StepTable) where
+  -- "For n = 1 to N: .. The start takes the step; the exponent loses the table entry": the state of start and exponent after n steps
+  abbrev pub ended : ℕ → 𝔾 → 𝔾 → State
+  ended n e s = run F t Exp 0 n (state s e)
+
+  -- "The answer is the last start"
   abbrev pub figures : ℕ → 𝔾 → 𝔾 → Figures
-  figures n e s = record { value = point (run F t e n s); «error_bound» = errorBound n s }
+  figures n e s = record { value = ended n e s .point; «error_bound» = errorBound n s }
 
   -- "first 1, N outside 1 to 40; then 2, exponent outside the rectangle; then 3, a start part over 2^58 in size"
   unfoldable pub answer : ℤ → 𝔾 → 𝔾 → Answer
@@ -64,7 +71,7 @@ miss F T e s a = a *ᵍ Dᵍ (2 ^ F) T -ᵍ s *ᵍ Sᵍ (2 ^ F) T e
 
 -- "8M/2^N + 3N"
 abbrev pub allowed : (F n T : ℕ) (s : 𝔾) → ℤ
-allowed F n T s = (pos 8 *ℤ larger s +ℤ floor-share *ℤ pos n *ℤ two n) *ℤ Dᶻ (2 ^ F) T
+allowed F n T s = (pos 8 *ℤ larger s +ℤ rounding-share *ℤ pos n *ℤ two n) *ℤ Dᶻ (2 ^ F) T
 
 -- "is at most 8M/2^N + 3N in size in each part"
 pub record CloseAt (F n T : ℕ) (e s a : 𝔾) : Type 0 where

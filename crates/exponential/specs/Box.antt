@@ -10,7 +10,7 @@ use Rattle.algebra.specs.Order.{_⩽_, _⋖_, nonneg-mul, sub-nonneg}
 use Rattle.algebra.specs.Linear.{lin, lin<, _&_, _&<_, _&≡_, none}
 use Rattle.algebra.specs.Parts.{abs, abs-below}
 use Rattle.entries.specs.Window.{Span, Lies, Spans, pick}
-use Rattle.exponential.specs.Select.{Cut, minus, nought, plus}
+use Rattle.iteration.specs.Select.{Cut, minus, nought, plus}
 
 -- ---- the tests
 -- one digit: what is in s, less what is in v, is in b; k is what two units come to

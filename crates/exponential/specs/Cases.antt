@@ -11,8 +11,8 @@ use Rattle.point.specs.Limits.{inSteps, inBox, inParts}
 use Rattle.point.specs.Step.{quotient, step}
 use Rattle.entries.specs.Numbers48.{stepLogs}
 use Rattle.entries.specs.Table.{stepTable}
-use Rattle.exponential.specs.Select.{select}
-use Rattle.exponential.specs.Run.{walk, residue, digit}
+use Rattle.iteration.specs.Select.{exp-select}
+use Rattle.iteration.specs.State.{select, next, run}
 use Rattle.exponential.specs.Answer.{inRectangle, errorBound, answer, expAnswer, expRecord}
 
 -- ---- the limits by 01's numbers
@@ -28,5 +28,5 @@ one = pos 281474976710656
 
 -- ---- 1|EXP|40|0|0|281474976710656|0 answers 281474976710656|0|2168
 pub kernel-one : expRecord (expAnswer (pos 40) (pos 0) (pos 0) one (pos 0)) ≡ pos 0 ∷ one ∷ pos 0 ∷ pos 0 ∷ pos 0 ∷ pos 2168 ∷ []
-unfolding expRecord expAnswer answer inSteps inRectangle inParts inBox between errorBound ceiling larger abs walk step quotient digit residue select stepTable stepLogs _+ᵍ_ negᵍ
+unfolding expRecord expAnswer answer inSteps inRectangle inParts inBox between errorBound ceiling larger abs run next select exp-select step quotient stepTable stepLogs _+ᵍ_ negᵍ
 kernel-one = refl

@@ -17,14 +17,15 @@ use Rattle.series.specs.Series.{D, Dᶻ}
 use Rattle.entries.specs.Promise.{StepTable, StepPromise}
 use Rattle.entries.specs.Table.{stepTable}
 use Rattle.entries.specs.Promise48.{step-promise}
+use Rattle.point.specs.Point.{gauss}
 use Rattle.point.specs.Limits.{inSteps, inParts, Counts, steps-say, box-says}
 use Rattle.point.specs.declared.Refusal.the-variants.{Steps, Exponent, Part}
 use Rattle.exponential.specs.declared.Answer.{Answer}
 use Rattle.exponential.specs.declared.Answer.the-variants.{Answered, Refused}
-use Rattle.exponential.specs.Run.{residue, run}
+use Rattle.iteration.specs.State.{state}
 use Rattle.exponential.specs.Convergence.{Rectangle, Below, converges}
 use Rattle.exponential.specs.Error.{exp-error}
-use Rattle.exponential.specs.Answer.{inRectangle, unless, figures, answer, errorBound, expAnswer, miss, allowed, CloseAt, Close}
+use Rattle.exponential.specs.Answer.{inRectangle, unless, ended, figures, answer, errorBound, expAnswer, miss, allowed, CloseAt, Close}
 use Rattle.exponential.specs.Bound.{bound-enough}
 
 -- ---- what the test of the rectangle says
@@ -68,15 +69,15 @@ module _ (F : ℕ) (wide : 16 ≤ F) (narrow : F ≤ 48) (t : StepTable) (promis
   room = omega arith
 
   -- "after n steps, each exponent part is below 1/2^n in size"
-  pub exponent-below : (e : 𝔾) → inRectangle F e ≡ true → (n : ℕ) → n ≤ F - 8 → Below (residue F t e n) (two (F - n))
-  exponent-below e r n h = converges F (F - 8) wide room t promise e (rectangle-says F e (omega arith) r) n h
+  pub exponent-below : (e s : 𝔾) → inRectangle F e ≡ true → (n : ℕ) → n ≤ F - 8 → Below (gauss (ended F t n e s .sum)) (two (F - n))
+  exponent-below e s r n h = converges F (F - 8) wide room t promise (state s e) (rectangle-says F e (omega arith) r) n h
 
   -- the error is within the bound
-  pub close-at : {n : ℤ} {e s : 𝔾} → Accepted F n e s → (T : ℕ) → 24 ≤ T → CloseAt F (natAbs n) T e s (run F t e (natAbs n) s)
+  pub close-at : {n : ℤ} {e s : 𝔾} → Accepted F n e s → (T : ℕ) → 24 ≤ T → CloseAt F (natAbs n) T e s (gauss (ended F t (natAbs n) e s .point))
   close-at {n} {e} {s} a T long = let p = parts-abs (two (natAbs n)) off small in record { re = p .0; im = p .1 }
     where
       off : 𝔾
-      off = miss F T e s (run F t e (natAbs n) s)
+      off = miss F T e s (gauss (ended F t (natAbs n) e s .point))
 
       count : Counts F 1 n
       count = steps-say F 1 n (a .steps)

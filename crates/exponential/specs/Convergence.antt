@@ -12,10 +12,13 @@ use Rattle.algebra.specs.Order.{_⩽_, _⋖_, nonneg-pos}
 use Rattle.algebra.specs.Linear.{lin, _&_, _&≡_, none}
 use Rattle.algebra.specs.Power.{two, two≥1, two-mono, two-halve, two-part}
 use Rattle.algebra.specs.Parts.{abs, Parts, below-size}
+use Rattle.point.specs.Point.{gauss}
 use Rattle.entries.specs.Window.{Span, about, Lies, real, imag}
 use Rattle.entries.specs.Promise.{StepTable, look, StepEntry, StepPromise}
-use Rattle.exponential.specs.Select.{cut-says, low-x, high-x, low-y, high-y, select, select-digit}
-use Rattle.exponential.specs.Run.{residue}
+use Rattle.iteration.specs.Select.{cut-says, low-x, high-x, low-y, high-y, exp-select, exp-digit}
+use Rattle.iteration.specs.declared.State.{State}
+use Rattle.iteration.specs.declared.Mode.the-variants.{Exp}
+use Rattle.iteration.specs.State.{select, next, moved, run, run-keeps}
 use Rattle.exponential.specs.Box.{Fits, Inside, part, ends}
 
 -- ---- the boxes and the cuts, in 1/2048 of h = 2^(F−n)
@@ -113,14 +116,14 @@ pub below-parts : {e : 𝔾} {m : ℤ} → Below e m → Parts e m
 below-parts h = record { re = below-size (h .re); im = below-size (h .im) }
 
 -- each part lies in the box of step n
-record Boxed (F n : ℕ) (e : 𝔾) : Type 0 where
-  x : Lies (pos 0) (box-x n) (two (F - n)) (e .re)
-  y : Lies (pos 0) (box-y n) (two (F - n)) (e .im)
+pub record Boxed (F n : ℕ) (e : 𝔾) : Type 0 where
+  pub x : Lies (pos 0) (box-x n) (two (F - n)) (e .re)
+  pub y : Lies (pos 0) (box-y n) (two (F - n)) (e .im)
 
 module _ (F M : ℕ) (wide : 16 ≤ F) (room : M + 8 ≤ F) (t : StepTable) (promise : StepPromise F M t) where
   -- step n + 1
-  boxed-step : (n : ℕ) (e : 𝔾) → suc n ≤ M → Boxed F (suc n) e → Boxed F (suc (suc n)) (e -ᵍ look t (suc n) (select F (suc n) e))
-  unfolding select _+ᵍ_ negᵍ
+  boxed-step : (n : ℕ) (e : 𝔾) → suc n ≤ M → Boxed F (suc n) e → Boxed F (suc (suc n)) (e -ᵍ look t (suc n) (exp-select F (suc n) e))
+  unfolding exp-select _+ᵍ_ negᵍ
   boxed-step n e g b = record {
     x = part h h′ k half sign units (box-x m) cut-x (real m) (box-x (suc m)) (low-x F m) (high-x F m) (e .re) (look t m d .re) (d .re) (good n .fits-x)
         (low-x-is F m (omega arith)) (high-x-is F m (omega arith)) (cut-says (low-x F m) (high-x F m) (e .re)) (b .x) (kept .re);
@@ -132,10 +135,10 @@ module _ (F M : ℕ) (wide : 16 ≤ F) (room : M + 8 ≤ F) (t : StepTable) (pro
       m = suc n
 
       d : 𝔾
-      d = select F m e
+      d = exp-select F m e
 
       kept : StepEntry F m d (look t m d)
-      kept = promise m (omega arith) g d (select-digit F m e)
+      kept = promise m (omega arith) g d (exp-digit F m e)
 
       h : ℤ
       h = two (F - m)
@@ -155,9 +158,8 @@ module _ (F M : ℕ) (wide : 16 ≤ F) (room : M + 8 ≤ F) (t : StepTable) (pro
       units : pos 4096 ⩽ k *ℤ h
       units = slack-is F n wide (omega arith)
 
-  boxed : (e : 𝔾) → Rectangle F e → (n : ℕ) → n ≤ M → Boxed F (suc n) (residue F t e n)
-  unfolding residue
-  boxed e r zero g = record {
+  pub boxed-start : (e : 𝔾) → Rectangle F e → Boxed F 1 e
+  boxed-start e r = record {
     x = record { low = lin ρ (twice &≡ r .re-lo & none) (search reify depth 20) tt; high = lin ρ (twice &≡ r .re-hi & none) (search reify depth 20) tt };
     y = record { low = lin ρ (twice &≡ r .im-lo & none) (search reify depth 20) tt; high = lin ρ (twice &≡ r .im-hi & none) (search reify depth 20) tt };
   }
@@ -170,17 +172,22 @@ module _ (F M : ℕ) (wide : 16 ≤ F) (room : M + 8 ≤ F) (t : StepTable) (pro
 
       ρ : List ℤ
       ρ = two F ∷ two (F - 1) ∷ e .re ∷ e .im ∷ []
-  boxed e r (suc n) g = boxed-step n (residue F t e n) g (boxed e r n (omega arith))
+
+  -- a step of the iteration keeps it
+  pub boxed-next : (n : ℕ) (x : State) → suc n ≤ M → Boxed F (suc n) (gauss (x .sum)) → Boxed F (suc (suc n)) (gauss (moved F t Exp (suc n) x .sum))
+  unfolding next select
+  boxed-next n x = boxed-step n (gauss (x .sum))
+
+  pub boxed-below : (n : ℕ) (e : 𝔾) → n ≤ M → Boxed F (suc n) e → Below e (two (F - n))
+  boxed-below n e g b = subst (λ m. Below e m) (sym (two-halve F n (omega arith))) (record {
+    re = ends (box-x (suc n)) (two (F - suc n)) (e .re) (two≥1 (F - suc n)) (good n .inside-x) (b .x);
+    im = ends (box-y (suc n)) (two (F - suc n)) (e .im) (two≥1 (F - suc n)) (good n .inside-y) (b .y);
+  })
+
+  -- the exponent lies in its box after each step
+  pub boxed : (x : State) → Rectangle F (gauss (x .sum)) → (n : ℕ) → n ≤ M → Boxed F (suc n) (gauss (run F t Exp 0 n x .sum))
+  boxed x r n g = run-keeps F t Exp (λ n x. Boxed F (suc n) (gauss (x .sum))) M boxed-next 0 n n x (omega arith) g (boxed-start (gauss (x .sum)) r)
 
   -- THE THEOREM
-  pub converges : (e : 𝔾) → Rectangle F e → (n : ℕ) → n ≤ M → Below (residue F t e n) (two (F - n))
-  converges e r n g = subst (λ m. Below (residue F t e n) m) (sym twice) (record {
-    re = ends (box-x (suc n)) h (residue F t e n .re) (two≥1 (F - suc n)) (good n .inside-x) (boxed e r n g .x);
-    im = ends (box-y (suc n)) h (residue F t e n .im) (two≥1 (F - suc n)) (good n .inside-y) (boxed e r n g .y);
-  })
-    where
-      h : ℤ
-      h = two (F - suc n)
-
-      twice : two (F - n) ≡ pos 2 *ℤ h
-      twice = two-halve F n (omega arith)
+  pub converges : (x : State) → Rectangle F (gauss (x .sum)) → (n : ℕ) → n ≤ M → Below (gauss (run F t Exp 0 n x .sum)) (two (F - n))
+  converges x r n g = boxed-below n (gauss (run F t Exp 0 n x .sum)) g (boxed x r n g)

@@ -1,22 +1,13 @@
 // EXP: a start times the exponential of a number in a rectangle, by shifts and additions.
 ghost use mathlib.Core.Path.{_≡_};
 ghost use Prim.Native.Nat.{_≤_};
-ghost use lib.ListN.{getD};
-ghost use Rattle.algebra.specs.Gauss.{_-ᵍ_};
 ghost use Rattle.algebra.specs.Parts.{Size, Parts, abs};
 ghost use Rattle.algebra.specs.Larger.{larger};
 ghost use Rattle.algebra.specs.Power.{two};
-ghost use Rattle.point.specs.Point.{gauss, point, digit};
-ghost use Rattle.point.specs.Digit.{Trit};
-ghost use Rattle.entries.specs.Rows.{number, none};
-ghost use Rattle.entries.specs.Table.{stepTable};
-ghost use Rattle.tables.specs.Digits.{place};
-ghost use Rattle.exponential.specs.Select.{cut, select};
-ghost use Rattle.exponential.specs.Run.{run};
-ghost use Rattle.exponential.specs.Convergence.{Rectangle};
+ghost use Rattle.point.specs.Point.{gauss};
 ghost use Rattle.exponential.specs.Answer.{errorBound, expAnswer, Close};
-use entries::Entry;
-use point::Digit;
+use iteration::Mode;
+use iteration::State;
 use point::Point;
 use point::Refusal;
 
@@ -29,36 +20,6 @@ pub struct Figures {
 pub enum Answer {
     Answered(Figures),
     Refused(Refusal),
-}
-
-// -1 below lo, 1 from hi on, else 0.
-fn cut(lo: i64, hi: i64, x: i64) -> i64
-    ensures { λ r. ⌜ r ≡ cut lo hi x ⌝ }
-{
-    if x < lo {
-        -1
-    } else if x < hi {
-        0
-    } else {
-        1
-    }
-}
-
-// The digit of step n. Its thresholds are those of one, shifted: -1/2 and 3/8 for dx, -3/4 and 13/16 for dy.
-fn select(e: Point, n: usize) -> Digit
-    requires { ⌜ n ≤ 40 ⌝ }
-    ensures { λ r. ⌜ r ≡ digit (select 48 n (gauss e)) ⌝ }
-{
-    let x = e.x;
-    let y = e.y;
-    let low_x: i64 = -140737488355328 >> n;
-    let high_x: i64 = 105553116266496 >> n;
-    let low_y: i64 = -211106232532992 >> n;
-    let high_y: i64 = 228698418577408 >> n;
-    Digit {
-        dx: cut(low_x, high_x, x),
-        dy: cut(low_y, high_y, y),
-    }
 }
 
 // The absolute value.
@@ -89,50 +50,8 @@ fn error_bound(n: usize, s: Point) -> i64
 {
     let m = larger_part(s);
     let down = (-8 * m) >> n;
-    let floors = 3 * (n as i64);
-    floors - down
-}
-
-// What the step of the exponent leaves: it loses the entry for dy of its row. The place is dy + 1, without a branch.
-fn less(e: Point, row: [Entry; 3], dy: i64) -> Point
-    requires { ⌜ Trit dy ⌝ }
-    requires { ⌜ Parts (gauss e) (two 61) ⌝ }
-    requires { ⌜ Parts (number (getD row (place dy) none)) (two 61) ⌝ }
-    ensures { λ r. ⌜ r ≡ point (gauss e -ᵍ number (getD row (place dy) none)) ⌝ }
-{
-    let x = e.x;
-    let y = e.y;
-    let at = (dy + 1) as usize;
-    let entry = row[at];
-    let re = entry.re;
-    let im = entry.im;
-    Point {
-        x: x - re,
-        y: y - im,
-    }
-}
-
-// The start after n steps.
-fn run(n: usize, exponent: Point, start: Point) -> Point
-    requires { ⌜ n ≤ 40 ⌝ }
-    requires { ⌜ Rectangle 48 (gauss exponent) ⌝ }
-    requires { ⌜ Parts (gauss start) (two 58) ⌝ }
-    ensures { λ r. ⌜ r ≡ point (run 48 stepTable (gauss exponent) n (gauss start)) ⌝ }
-{
-    let mut e = exponent;
-    let mut s = start;
-    let mut k: usize = 0;
-    while k < n {
-        let m = k + 1;
-        let d = select(e, m);
-        let dx = d.dx;
-        let dy = d.dy;
-        let row = tables::row(m, dx);
-        s = s.step(d, m);
-        e = less(e, row, dy);
-        k = m;
-    }
-    s
+    let share = 3 * (n as i64);
+    share - down
 }
 
 // The start times the exponential of the exponent, by n steps.
@@ -160,7 +79,16 @@ pub fn exp(n: i64, exponent: Point, start: Point) -> Answer
         return Answer::Refused(Refusal::Part);
     }
     let steps = n as usize;
-    let value = run(steps, exponent, start);
+    let end = iteration::run(
+        Mode::Exp,
+        0,
+        steps,
+        State {
+            point: start,
+            sum: exponent,
+        },
+    );
+    let value = end.point;
     let error_bound = error_bound(steps, start);
     Answer::Answered(Figures { value, error_bound })
 }

@@ -8,8 +8,8 @@ use mir.Syntax.{w64}
 use mir.Val.{toZ, ofZ}
 use Rattle.word.specs.Fits.{back, word-pos}
 use Rattle.point.specs.Point.{gauss}
-use Rattle.iteration.specs.Drift.{floor-share}
-use Rattle.exponential.specs.Words.{BoundFits, bound-fits, bound-is}
+use Rattle.iteration.specs.Drift.{rounding-share}
+use Rattle.exponential.specs.Fits.{BoundFits, bound-fits, bound-is}
 use borrow.Author.Needs.{needs}
 use Rattle.exponential.proofs.error_bound.Statement.{statement}
 use Rattle.exponential.proofs.error_bound.Tie as tie
@@ -20,16 +20,16 @@ fits c = subst (λ m. BoundFits (c .before .args .n) m) (sym (c .larger-part .en
 -- ---- the contract
 -- the code's words, read back
 abbrev made : ℕ → ℤ → ℤ
-made n m = toZ w64 (ofZ w64 (toZ w64 (ofZ w64 (floor-share *ℤ toZ w64 n)) -ℤ toZ w64 (ofZ w64 (shrZ (toZ w64 (ofZ w64 (negsuc 7 *ℤ toZ w64 (ofZ w64 m)))) (2 ^ n)))))
+made n m = toZ w64 (ofZ w64 (toZ w64 (ofZ w64 (rounding-share *ℤ toZ w64 n)) -ℤ toZ w64 (ofZ w64 (shrZ (toZ w64 (ofZ w64 (negsuc 7 *ℤ toZ w64 (ofZ w64 m)))) (2 ^ n)))))
 
-made-is : (n : ℕ) (m : ℤ) → n ≤ 40 → BoundFits n m → made n m ≡ floor-share *ℤ pos n -ℤ shrZ (negsuc 7 *ℤ m) (2 ^ n)
-made-is n m h f = simp (back, word-pos n (omega arith), f .larger, f .eight, f .down, f .floors, f .bound)
+made-is : (n : ℕ) (m : ℤ) → n ≤ 40 → BoundFits n m → made n m ≡ rounding-share *ℤ pos n -ℤ shrZ (negsuc 7 *ℤ m) (2 ^ n)
+made-is n m h f = simp (back, word-pos n (omega arith), f .larger, f .eight, f .down, f .share, f .bound)
 
 returns : tie.Need-returns
 returns c =
     let s = c .before in
     let n = s .args .n in
-    made-is n (c .larger-part .result) (s .pre .0) (fits c) ∙ (ap (λ m. floor-share *ℤ pos n -ℤ shrZ (negsuc 7 *ℤ m) (2 ^ n)) (c .larger-part .ensures) ∙ bound-is n (gauss (s .args .s)))
+    made-is n (c .larger-part .result) (s .pre .0) (fits c) ∙ (ap (λ m. rounding-share *ℤ pos n -ℤ shrZ (negsuc 7 *ℤ m) (2 ^ n)) (c .larger-part .ensures) ∙ bound-is n (gauss (s .args .s)))
 
 -- ---- what the operations ask
 larger-part-requires : tie.Need-larger-part-requires
@@ -44,14 +44,14 @@ cast-down c = search needs
 shr-down : tie.Need-shr-down
 shr-down c = search needs
 
-cast-floors : tie.Need-cast-floors
-cast-floors c = search needs
+cast-share : tie.Need-cast-share
+cast-share c = search needs
 
-mul-floors : tie.Need-mul-floors
-mul-floors c = rw (word-pos (c .before .args .n) (omega arith)) (fits c .floors)
+mul-share : tie.Need-mul-share
+mul-share c = rw (word-pos (c .before .args .n) (omega arith)) (fits c .share)
 
 sub-result : tie.Need-sub-result
-sub-result c = let f = fits c in simp (back, word-pos (c .before .args .n) (omega arith), f .larger, f .eight, f .down, f .floors) (f .bound)
+sub-result c = let f = fits c in simp (back, word-pos (c .before .args .n) (omega arith), f .larger, f .eight, f .down, f .share) (f .bound)
 
 pub error-bound-spec : {M : Type 1} → statement M
 error-bound-spec =
@@ -61,7 +61,7 @@ error-bound-spec =
     mul-down
     cast-down
     shr-down
-    cast-floors
-    mul-floors
+    cast-share
+    mul-share
     sub-result
     returns)

@@ -1,14 +1,19 @@
 -- `exponential::exp` meets its contract.
-use mathlib.Core.Path.{_≡_, sym, _∙_}
+use mathlib.Core.Path.{_≡_, sym, _∙_, ap}
 use mathlib.Core.Bool.{true}
+use Prim.Native.Nat.{_-_}
 use native.Mathlib.Omega.{arith}
+use lib.IntN.{natAbs}
 use borrow.Author.Tests.{not-true, not-false}
 use Rattle.word.specs.Fits.{back, sfits-mag}
 use Rattle.point.specs.Point.{gauss}
 use Rattle.point.specs.Limits.{inSteps, inParts, steps-say, parts-say}
 use Rattle.entries.specs.Table.{stepTable}
+use Rattle.entries.specs.Promise48.{step-promise}
+use Rattle.iteration.specs.declared.State.{State}
 use Rattle.exponential.specs.declared.Answer.the-variants.{Answered}
 use Rattle.exponential.specs.Answer.{inRectangle}
+use Rattle.exponential.specs.Fits.{run-fits}
 use Rattle.exponential.specs.Close.{Accepted, rectangle-says, refused-steps, refused-exponent, refused-part, answered, settled}
 use borrow.Author.Needs.{needs}
 use Rattle.exponential.proofs.exp.Statement.{statement}
@@ -80,21 +85,24 @@ run-requires c κs =
     let a = s .args in
     let p = accepted c in
     simp (back, s .fits .n)
-    (steps-say 48 1 (a .n) (p .steps) .at-most, (rectangle-says 48 (gauss (a .exponent)) (omega arith) (p .rectangle), parts-say 48 (gauss (a .start)) (p .start)))
+    (run-fits 48 (omega arith) (omega arith) stepTable step-promise (natAbs (a .n)) (gauss (a .exponent)) (gauss (a .start)) (steps-say 48 1 (a .n) (p .steps) .at-most)
+    (rectangle-says 48 (gauss (a .exponent)) (omega arith) (p .rectangle)) (parts-say 48 (gauss (a .start)) (p .start)))
 
 error-bound-requires : tie.Need-error-bound-requires
 error-bound-requires c κs =
-    let s = c .before .before .before .before .before .before .before in
+    let e = c .before .before in
+    let s = e .before .before .before .before .before .before in
     let a = s .args in
-    let p = accepted (c .before) in
+    let p = accepted e in
     simp (back, s .fits .n) (steps-say 48 1 (a .n) (p .steps) .at-most, parts-say 48 (gauss (a .start)) (p .start))
 
 returns-4 : tie.Need-returns-4
 returns-4 c =
-    let r = c .before in
+    let r = c .before .before in
     let s = r .before .before .before .before .before .before .before in
     let a = s .args in
-    let value = simp (back, s .fits .n) at (r .run .ensures) in
+    let all : natAbs (a .n) - 0 ≡ natAbs (a .n) = omega arith in
+    let value = ap (λ (x : State). x .point) (rw all at (simp (back, s .fits .n) at (r .run .ensures))) in
     let bound = back (sfits-mag (c .error-bound .result) (c .error-bound .ok)) ∙ (simp (back, s .fits .n) at (c .error-bound .ensures)) in
     settled (a .n) (a .exponent .x) (a .exponent .y) (a .start .x) (a .start .y)
     (answered 48 stepTable (a .n) (gauss (a .exponent)) (gauss (a .start)) (accepted (r .before))

@@ -1,7 +1,7 @@
--- `exponential::cut` meets its contract.
+-- `iteration::cut` meets its contract.
 use Rattle.word.specs.Fits.{back}
-use Rattle.exponential.proofs.cut.Statement.{statement}
-use Rattle.exponential.proofs.cut.Tie as tie
+use Rattle.iteration.proofs.cut.Statement.{statement}
+use Rattle.iteration.proofs.cut.Tie as tie
 
 returns : tie.Need-returns
 returns c = let f = c .before .fits in rw (simp (back, f .x, f .lo) at (c .if1 .taken))

@@ -1,11 +1,12 @@
--- `exponential::select` meets its contract.
+-- `iteration::exp_digit` meets its contract.
 use mathlib.Core.Path.{_∙_}
 use Rattle.word.specs.Fits.{back, sfits-mag}
-use Rattle.exponential.specs.Select.{cut, select}
-use Rattle.exponential.specs.Words.{low-x-word, high-x-word, low-y-word, high-y-word}
+use Rattle.iteration.specs.Select.{cut, exp-select}
+use Rattle.iteration.specs.Fits.{low-x-word, high-x-word, low-y-word, high-y-word}
+use native.Mathlib.Omega.{arith}
 use borrow.Author.Needs.{needs}
-use Rattle.exponential.proofs.select.Statement.{statement}
-use Rattle.exponential.proofs.select.Tie as tie
+use Rattle.iteration.proofs.exp_digit.Statement.{statement}
+use Rattle.iteration.proofs.exp_digit.Tie as tie
 
 cast-low-x : tie.Need-cast-low-x
 cast-low-x c = search needs
@@ -38,19 +39,19 @@ cut-requires-2 : tie.Need-cut-requires-2
 cut-requires-2 c κs = search needs
 
 returns : tie.Need-returns
-unfolding select
+unfolding exp-select
 returns c =
     let b = c .before in
     let s = b .before .before .before in
     let n = s .args .n in
-    let x = back (sfits-mag (s .args .e .x) (b .before .before .struct-told .given .0 .1)) in
-    let y = back (sfits-mag (s .args .e .y) (b .before .struct-told2 .given .1 .0 .1)) in
-    let dx = back (sfits-mag (b .cut .result) (b .cut .ok)) ∙ (b .cut .ensures ∙ (λ i. cut (low-x-word n (s .pre) i) (high-x-word n (s .pre) i) (x i))) in
-    let dy = back (sfits-mag (c .cut2 .result) (c .cut2 .ok)) ∙ (c .cut2 .ensures ∙ (λ i. cut (low-y-word n (s .pre) i) (high-y-word n (s .pre) i) (y i))) in
+    let x = back (sfits-mag (s .args .sum .x) (b .before .before .struct-told .given .0 .1)) in
+    let y = back (sfits-mag (s .args .sum .y) (b .before .struct-told2 .given .1 .0 .1)) in
+    let dx = back (sfits-mag (b .cut .result) (b .cut .ok)) ∙ (b .cut .ensures ∙ (λ i. cut (low-x-word 48 n (omega arith) (omega (arith, s .pre)) i) (high-x-word 48 n (omega arith) (omega (arith, s .pre)) i) (x i))) in
+    let dy = back (sfits-mag (c .cut2 .result) (c .cut2 .ok)) ∙ (c .cut2 .ensures ∙ (λ i. cut (low-y-word 48 n (omega arith) (omega (arith, s .pre)) i) (high-y-word 48 n (omega arith) (omega (arith, s .pre)) i) (y i))) in
     λ i. record { dx = dx i; dy = dy i }
 
-pub select-spec : {M : Type 1} → statement M
-select-spec =
+pub exp-digit-spec : {M : Type 1} → statement M
+exp-digit-spec =
     tie.close
     (tie.spec
     cast-low-x

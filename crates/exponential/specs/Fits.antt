@@ -1,0 +1,79 @@
+-- For the code, over a width F up to 48: every state of the run fits, and so does the error bound.
+use mathlib.Core.Path.{_≡_, _∙_, ap}
+use mathlib.Core.List.{[], _∷_}
+use Prim.Native.Nat.{ℕ, _+_, _-_, _^_, _≤_}
+use native.Mathlib.Omega.{arith}
+use lib.IntN.{ℤ, pos, negsuc, negℤ, _+ℤ_, _-ℤ_, _*ℤ_}
+use lib.Signed.{shrZ}
+use mir.Syntax.{w64}
+use mir.Val.{SFits}
+use Rattle.algebra.specs.Integer.{ℤR}
+use Rattle.algebra.specs.Reify.{ring!, reify}
+use Rattle.algebra.specs.Gauss.{𝔾}
+use Rattle.algebra.specs.Order.{_⩽_, nonneg-pos}
+use Rattle.algebra.specs.Linear.{lin, _&_, _&ℕ_, none}
+use Rattle.algebra.specs.Power.{two, two-mono}
+use Rattle.algebra.specs.Floor.{ceiling}
+use Rattle.algebra.specs.Larger.{larger, larger-parts, larger-le}
+use Rattle.algebra.specs.Parts.{Size, Parts, parts-weaken, parts-cancel, size-add, size-neg, size-sign}
+use Rattle.word.specs.Fits.{sfits-size}
+use Rattle.word.specs.Shift.{size-shift}
+use Rattle.point.specs.Point.{gauss}
+use Rattle.entries.specs.Promise.{StepTable, StepPromise}
+use Rattle.iteration.specs.declared.Mode.the-variants.{Exp}
+use Rattle.iteration.specs.State.{state, run}
+use Rattle.iteration.specs.Drift.{rounding-share, exact-start, exact-run, exact-size}
+use Rattle.iteration.specs.Fits.{Fits}
+use Rattle.exponential.specs.Convergence.{Rectangle, below-parts, converges}
+use Rattle.exponential.specs.Answer.{errorBound}
+
+-- ---- the run: a start of parts up to 2^58 stays at 2^60 or less (1089/280 of it, and the rounding), and the exponent below one
+module _ (F : ℕ) (wide : 16 ≤ F) (narrow : F ≤ 48) (t : StepTable) (promise : StepPromise F (F - 8) t) where
+  pub run-fits : (n : ℕ) (e s : 𝔾) → n ≤ F - 8 → Rectangle F e → Parts s (two 58) → Fits F t Exp 0 n (state s e)
+  run-fits n e s h rect given = record {
+    most = omega arith;
+    small = λ j l. record {
+      point = parts-cancel (pos 280) (record { le = tt }) (parts-weaken (exact-size (exact-run F t Exp 0 j j (state s e) (omega arith) exact-start) given)
+          (lin (pos j ∷ []) (few j l &ℕ none) (search reify depth 20) tt));
+      sum = parts-weaken (below-parts (converges F (F - 8) wide (omega arith) t promise (state s e) rect j (omega arith))) (two-mono (F - j) 61 (omega arith));
+    };
+  }
+    where
+      few : (j : ℕ) → j ≤ n - 0 → j ≤ 40
+      few j l = omega arith
+
+-- ---- the error bound, M being m: a ceiling is a floor below zero
+pub record BoundFits (n : ℕ) (m : ℤ) : Type 0 where
+  pub larger : SFits w64 m
+  pub eight : SFits w64 (negsuc 7 *ℤ m)
+  pub down : SFits w64 (shrZ (negsuc 7 *ℤ m) (2 ^ n))
+  pub share : SFits w64 (rounding-share *ℤ pos n)
+  pub bound : SFits w64 (rounding-share *ℤ pos n -ℤ shrZ (negsuc 7 *ℤ m) (2 ^ n))
+
+pub bound-fits : (n : ℕ) {s : 𝔾} → n ≤ 40 → Parts s (two 58) → BoundFits n (larger s)
+bound-fits n {s} h g = record {
+  larger = sfits-size {b = two 58} (record { lo = lin (m ∷ []) (sign & none) (search reify depth 20) tt; hi = larger-le g }) tt;
+  eight = sfits-size eight tt;
+  down = sfits-size (size-shift (2 ^ n) eight) tt;
+  share = sfits-size share tt;
+  bound = sfits-size (size-add share (size-neg (size-shift (2 ^ n) eight))) tt;
+}
+  where
+    m : ℤ
+    m = larger s
+
+    sign : pos 0 ⩽ m
+    sign = size-sign (larger-parts s .re)
+
+    eight : Size (negsuc 7 *ℤ m) (two 61)
+    eight = record { lo = lin (m ∷ []) (larger-le g & none) (search reify depth 20) tt; hi = lin (m ∷ []) (sign & none) (search reify depth 20) tt }
+
+    share : Size (rounding-share *ℤ pos n) (pos 120)
+    share = record { lo = lin (pos n ∷ []) (nonneg-pos n & none) (search reify depth 20) tt; hi = lin (pos n ∷ []) (h &ℕ none) (search reify depth 20) tt }
+
+pub bound-is : (n : ℕ) (s : 𝔾) → rounding-share *ℤ pos n -ℤ shrZ (negsuc 7 *ℤ larger s) (2 ^ n) ≡ errorBound n s
+unfolding errorBound ceiling
+bound-is n s = ap (λ a. rounding-share *ℤ pos n -ℤ shrZ a (2 ^ n)) eight ∙ ring! ℤR (pos n ∷ shrZ (negℤ (pos 8 *ℤ larger s)) (2 ^ n) ∷ []) (search reify depth 20) tt
+  where
+    eight : negsuc 7 *ℤ larger s ≡ negℤ (pos 8 *ℤ larger s)
+    eight = ring! ℤR (larger s ∷ []) (search reify depth 20) tt
