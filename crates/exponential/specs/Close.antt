@@ -18,13 +18,14 @@ use Rattle.entries.specs.Promise.{StepTable, StepPromise}
 use Rattle.entries.specs.Table.{stepTable}
 use Rattle.entries.specs.Promise48.{step-promise}
 use Rattle.point.specs.Limits.{inSteps, inParts, Counts, steps-say, box-says}
-use Rattle.point.specs.declared.Refusal.the-variants.{Steps, Exponent, Part}
-use Rattle.exponential.specs.declared.Answer.{Answer}
-use Rattle.exponential.specs.declared.Answer.the-variants.{Answered, Refused}
+use Rattle.answer.specs.declared.Refusal.the-variants.{Steps, Exponent, Part}
+use Rattle.answer.specs.declared.Answer.{Answer}
+use Rattle.answer.specs.declared.Answer.the-variants.{Answered, Refused}
+use Rattle.answer.specs.Refusal.{unless}
 use Rattle.exponential.specs.Run.{residue, run}
 use Rattle.exponential.specs.Convergence.{Rectangle, Below, converges}
 use Rattle.exponential.specs.Error.{exp-error}
-use Rattle.exponential.specs.Answer.{inRectangle, unless, figures, answer, errorBound, expAnswer, miss, allowed, CloseAt, Close}
+use Rattle.exponential.specs.Answer.{inRectangle, figures, answer, errorBound, expAnswer, miss, allowed, CloseAt, Close}
 use Rattle.exponential.specs.Bound.{bound-enough}
 
 -- ---- what the test of the rectangle says

@@ -15,21 +15,12 @@ ghost use Rattle.exponential.specs.Select.{cut, select};
 ghost use Rattle.exponential.specs.Run.{run};
 ghost use Rattle.exponential.specs.Convergence.{Rectangle};
 ghost use Rattle.exponential.specs.Answer.{errorBound, expAnswer, Close};
+use answer::Answer;
+use answer::Figures;
+use answer::Refusal;
 use entries::Entry;
 use point::Digit;
 use point::Point;
-use point::Refusal;
-
-// The start times the exponential of the exponent, nearly, and a bound of the error in each part, in units.
-pub struct Figures {
-    pub value: Point,
-    pub error_bound: i64,
-}
-
-pub enum Answer {
-    Answered(Figures),
-    Refused(Refusal),
-}
 
 // -1 below lo, 1 from hi on, else 0.
 fn cut(lo: i64, hi: i64, x: i64) -> i64
@@ -162,5 +153,10 @@ pub fn exp(n: i64, exponent: Point, start: Point) -> Answer
     let steps = n as usize;
     let value = run(steps, exponent, start);
     let error_bound = error_bound(steps, start);
-    Answer::Answered(Figures { value, error_bound })
+    Answer::Answered(Figures {
+        value,
+        binary_exponent: 0,
+        quadrant: 0,
+        error_bound,
+    })
 }
