@@ -1,11 +1,10 @@
 -- Inputs that are turned away (01, Turned away, by operation).
-use mathlib.Core.Path.{_≡_, refl}
 use mathlib.Core.Bool.{Bool, true, false}
 use lib.IntN.{ℤ, pos}
 use Rattle.answer.specs.declared.Refusal.{Refusal}
 use Rattle.answer.specs.declared.Refusal.the-variants.{Steps, Exponent, Part, Zero}
 use Rattle.answer.specs.declared.Answer.{Answer}
-use Rattle.answer.specs.declared.Answer.the-variants.{Answered, Refused}
+use Rattle.answer.specs.declared.Answer.the-variants.{Refused}
 
 -- the number of each refusal
 abbrev pub refusalNumber : Refusal → ℤ

@@ -1,4 +1,4 @@
-// What an operation answers, EXP and LOG alike: figures or a refusal, and the numbers of 01's record of it.
+// What EXP and LOG answer: figures or a refusal, and the six numbers of 01's record of them.
 ghost use mathlib.Core.Path.{_≡_};
 ghost use Rattle.answer.specs.Refusal.{refusalNumber};
 ghost use Rattle.answer.specs.Record.{numbers, recordOf};
@@ -16,8 +16,8 @@ pub enum Refusal {
     Zero,
 }
 
-// The value of EXP is the start times the exponential of the exponent, nearly; that of LOG is the logarithm, in units: the point is
-// 2^binary_exponent * i^quadrant * exp(value), nearly. EXP has 0 for these two. error_bound says how nearly.
+// EXP: value is the start times the exponential of the exponent, nearly; binary_exponent and quadrant are 0. LOG: value is the logarithm;
+// the point is 2^binary_exponent * i^quadrant * exp(value), nearly. error_bound, in units, says how nearly.
 pub struct Figures {
     pub value: Point,
     pub binary_exponent: i64,
