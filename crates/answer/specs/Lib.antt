@@ -1,5 +1,5 @@
--- The answer of both operations. Read beside 01:
---   Refusal   why an input is turned away, each reason's number, and the order in which they are tried
---   Record    the six numbers of an answer, and their places
+-- What both operations answer. Read beside 01:
+--   Refusal   each refusal's number, and an answer that is turned away unless a test holds
+--   Record    the six numbers of an answer, and a name for the place of each
 pub mod Refusal
 pub mod Record
