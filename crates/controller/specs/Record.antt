@@ -1,4 +1,4 @@
--- The record of a C call: an answer's numbers, eight bytes each, low byte first (01, Points and units).
+-- What a C call hands back and writes: an answer's record, each number eight bytes, low byte first (01, Points and units).
 use mathlib.Core.Path.{_≡_, refl, _∙_}
 use mathlib.Core.Bool.{cond}
 use mathlib.Core.List.{List, [], _∷_, _++_}
@@ -13,10 +13,12 @@ use mir.Syntax.{w64}
 use mir.Val.{toZ, ofZ}
 use Rattle.word.specs.Fits.{back, sfits-mag}
 use Rattle.word.specs.Bytes.{bytes, signed-bytes, length-bytes, encode, length-encode, poke, poke-append, poke-front}
+use Rattle.answer.specs.declared.Answer.{Answer}
+use Rattle.answer.specs.Record.{recordOf, refusal-in}
 
 -- ---- a buffer under 48 bytes is refused with 6, and nothing is written
 abbrev pub handed : List ℕ → List ℤ → ℤ
-handed out numbers = cond (ltb (length out) 48) (pos 6) (getD numbers 0 (pos 0))
+handed out numbers = cond (ltb (length out) 48) (pos 6) (refusal-in numbers)
 
 -- the bytes past the 48 keep their values
 abbrev pub written : List ℕ → List ℤ → List ℕ
@@ -48,7 +50,7 @@ pub poke-none : (b xs : List ℕ) (k : ℕ) → xs ≡ [] → poke b k xs ≡ b
 unfolding poke
 poke-none b xs k e = rw e
 
--- ---- A CALL: the numbers that are handed over are the answer's, and the first comes back as the machine holds it
-pub called : (b : List ℕ) {b′ : List ℕ} {zs answer : List ℤ} {r : ℤ} → zs ≡ answer → mag r < 2 ^ 63 → (r ≡ handed b zs) × (b′ ≡ written b zs) →
-    (toZ w64 (ofZ w64 r) ≡ handed b answer) × (b′ ≡ written b answer)
+-- ---- A CALL: what is handed over is the answer's record, and its first number comes back as the machine holds it
+pub called : (b : List ℕ) {b′ : List ℕ} {a answer : Answer} {r : ℤ} → a ≡ answer → mag r < 2 ^ 63 →
+    (r ≡ handed b (recordOf a)) × (b′ ≡ written b (recordOf a)) → (toZ w64 (ofZ w64 r) ≡ handed b (recordOf answer)) × (b′ ≡ written b (recordOf answer))
 called b {r = r} e f h = let told = rw e at h in (back (sfits-mag r f) ∙ told .0, told .1)

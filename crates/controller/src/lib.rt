@@ -6,9 +6,11 @@ ghost use lib.ListN.{length, drop};
 ghost use mir.Syntax.{w64};
 ghost use mir.Val.{ofZ};
 ghost use Rattle.word.specs.Bytes.{bytes, poke, encode};
-ghost use Rattle.exponential.specs.Answer.{expAnswer, expRecord};
-ghost use Rattle.logarithm.specs.Answer.{logAnswer, logRecord};
+ghost use Rattle.answer.specs.Record.{recordOf};
+ghost use Rattle.exponential.specs.Answer.{expAnswer};
+ghost use Rattle.logarithm.specs.Answer.{logAnswer};
 ghost use Rattle.controller.specs.Record.{handed, written};
+use answer::Answer;
 use point::Point;
 
 // The bits of z, in two's complement: no cast of a negative number is defined.
@@ -51,72 +53,33 @@ fn put_numbers(numbers: &[i64], out: &mut [u8])
     }
 }
 
-// The six numbers of an EXP answer.
-fn exp_record(answer: exponential::Answer) -> [i64; 6]
-    ensures { λ r. ⌜ r ≡ expRecord answer ⌝ }
-{
-    match answer {
-        exponential::Answer::Answered(f) => {
-            let value = f.value;
-            let x = value.x;
-            let y = value.y;
-            let error_bound = f.error_bound;
-            [0, x, y, 0, 0, error_bound]
-        }
-        exponential::Answer::Refused(r) => {
-            let number = r.number();
-            [number, 0, 0, 0, 0, 0]
-        }
-    }
-}
-
-// The six numbers of a LOG answer.
-fn log_record(answer: logarithm::Answer) -> [i64; 6]
-    ensures { λ r. ⌜ r ≡ logRecord answer ⌝ }
-{
-    match answer {
-        logarithm::Answer::Answered(f) => {
-            let value = f.value;
-            let x = value.x;
-            let y = value.y;
-            let binary_exponent = f.binary_exponent;
-            let quadrant = f.quadrant;
-            let error_bound = f.error_bound;
-            [0, x, y, binary_exponent, quadrant, error_bound]
-        }
-        logarithm::Answer::Refused(r) => {
-            let number = r.number();
-            [number, 0, 0, 0, 0, 0]
-        }
-    }
-}
-
-// An answer's numbers into the lent buffer, and the first of them back.
-fn hand_over(numbers: [i64; 6], out: &mut [u8]) -> i64
-    ensures handed { λ r. ⌜ r ≡ handed (now (out .entry)) numbers ⌝ }
-    ensures bytes { λ r. ⌜ now (out .exit) ≡ written (now (out .entry)) numbers ⌝ }
+// An answer's record into the lent buffer, and its first number back.
+fn hand_over(answer: Answer, out: &mut [u8]) -> i64
+    ensures handed { λ r. ⌜ r ≡ handed (now (out .entry)) (recordOf answer) ⌝ }
+    ensures bytes { λ r. ⌜ now (out .exit) ≡ written (now (out .entry)) (recordOf answer) ⌝ }
 {
     if out.len() < 48 {
         return 6;
     }
+    let numbers = answer.record();
     put_numbers(&numbers, out);
     numbers[0]
 }
 
 #[no_mangle]
 pub extern "C" fn bkm_exp(n: i64, ex: i64, ey: i64, sx: i64, sy: i64, out: &mut [u8]) -> i64
-    ensures handed { λ r. ⌜ r ≡ handed (now (out .entry)) (expRecord (expAnswer n ex ey sx sy)) ⌝ }
-    ensures bytes { λ r. ⌜ now (out .exit) ≡ written (now (out .entry)) (expRecord (expAnswer n ex ey sx sy)) ⌝ }
+    ensures handed { λ r. ⌜ r ≡ handed (now (out .entry)) (recordOf (expAnswer n ex ey sx sy)) ⌝ }
+    ensures bytes { λ r. ⌜ now (out .exit) ≡ written (now (out .entry)) (recordOf (expAnswer n ex ey sx sy)) ⌝ }
 {
     let answer = exponential::exp(n, Point { x: ex, y: ey }, Point { x: sx, y: sy });
-    hand_over(exp_record(answer), out)
+    hand_over(answer, out)
 }
 
 #[no_mangle]
 pub extern "C" fn bkm_log(n: i64, x: i64, y: i64, out: &mut [u8]) -> i64
-    ensures handed { λ r. ⌜ r ≡ handed (now (out .entry)) (logRecord (logAnswer n x y)) ⌝ }
-    ensures bytes { λ r. ⌜ now (out .exit) ≡ written (now (out .entry)) (logRecord (logAnswer n x y)) ⌝ }
+    ensures handed { λ r. ⌜ r ≡ handed (now (out .entry)) (recordOf (logAnswer n x y)) ⌝ }
+    ensures bytes { λ r. ⌜ now (out .exit) ≡ written (now (out .entry)) (recordOf (logAnswer n x y)) ⌝ }
 {
     let answer = logarithm::log(n, Point { x, y });
-    hand_over(log_record(answer), out)
+    hand_over(answer, out)
 }

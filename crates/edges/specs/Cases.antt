@@ -8,19 +8,15 @@ use Rattle.algebra.specs.Gauss.{𝔾, gi, ιᵍ, negᵍ, _+ᵍ_, _*ᵍ_}
 use Rattle.algebra.specs.Floor.{nearest}
 use Rattle.algebra.specs.Parts.{floorᵍ}
 use Rattle.word.specs.Compare.{between}
-use Rattle.point.specs.Refusal.{refusalNumber}
 use Rattle.point.specs.Step.{quotient, step}
 use Rattle.point.specs.Limits.{inSteps, inBox, inParts}
+use Rattle.answer.specs.Record.{recordOf, refusal-in}
 use Rattle.entries.specs.Numbers48.{stepLogs}
 use Rattle.entries.specs.Reciprocal.{reciprocal}
 use Rattle.entries.specs.Table.{stepTable}
-use Rattle.exponential.specs.declared.Answer.{Answer as ExpAnswer}
-use Rattle.exponential.specs.declared.Answer.the-variants.{Answered as ExpAnswered, Refused as ExpRefused}
 use Rattle.exponential.specs.Select.{select as exp-select}
 use Rattle.exponential.specs.Run.{walk, residue, digit as exp-digit, run}
 use Rattle.exponential.specs.Answer.{inRectangle, answer, expAnswer}
-use Rattle.logarithm.specs.declared.Answer.{Answer as LogAnswer}
-use Rattle.logarithm.specs.declared.Answer.the-variants.{Answered as LogAnswered, Refused as LogRefused}
 use Rattle.logarithm.specs.Quadrant.{turn-back, turns-back, quarters, turned, spelling, quadrant}
 use Rattle.logarithm.specs.Scale.{bits-from, bits, bit-length, binary-exponent, scaled}
 use Rattle.logarithm.specs.Cell.{column, row, reduced}
@@ -96,22 +92,14 @@ cases =
     ∷ []
 
 -- ---- what it is for a case to hold
-abbrev exp-number : ExpAnswer → ℤ
-exp-number (ExpAnswered f) = pos 0
-exp-number (ExpRefused r) = refusalNumber r
-
-abbrev log-number : LogAnswer → ℤ
-log-number (LogAnswered f) = pos 0
-log-number (LogRefused r) = refusalNumber r
-
 -- f 0, …, f (n − 1)
 abbrev opening : (ℕ → 𝔾) → ℕ → List 𝔾
 opening f zero = []
 opening f (suc n) = opening f n ++ (f n ∷ [])
 
 abbrev pub Holds : Case → Type 0
-Holds (exp-refusal n e s r) = exp-number (expAnswer n (e .re) (e .im) (s .re) (s .im)) ≡ r
-Holds (log-refusal n p r) = log-number (logAnswer n (p .re) (p .im)) ≡ r
+Holds (exp-refusal n e s r) = refusal-in (recordOf (expAnswer n (e .re) (e .im) (s .re) (s .im))) ≡ r
+Holds (log-refusal n p r) = refusal-in (recordOf (logAnswer n (p .re) (p .im))) ≡ r
 Holds (exp-digits e ds) = opening (exp-digit 48 stepTable e) (length ds) ≡ ds
 Holds (log-digits p ds) = opening (log-digit 48 (begun 48 (turned p))) (length ds) ≡ ds
 Holds (exp-start e s n after) = run 48 stepTable e n s ≡ after
@@ -125,7 +113,7 @@ All (c ∷ cs) = Holds c × All cs
 
 -- THE STATEMENT: every case of the table holds
 pub cases-hold : All cases
-unfolding expAnswer answer inSteps inRectangle inParts inBox between logAnswer answerTo isZero exp-digit residue exp-select stepTable stepLogs walk step quotient
+unfolding recordOf expAnswer answer inSteps inRectangle inParts inBox between logAnswer answerTo isZero exp-digit residue exp-select stepTable stepLogs walk step quotient
     quadrant spelling quarters turned turns-back turn-back binary-exponent bit-length bits bits-from scaled reduced column row reciprocal nearest floorᵍ
     log-digit point-at log-select cut ιᵍ negᵍ _+ᵍ_ _*ᵍ_
 cases-hold = (refl, (refl, (refl, (refl, (refl, (refl, (refl, (refl, (refl, (refl, (refl, (refl, (refl, (refl, (refl, (refl, (refl, (refl, (refl, (refl, (refl, (refl, (refl, (refl, tt))))))))))))))))))))))))

@@ -1,6 +1,5 @@
 -- EXP as 01 states it: the limits, the error bound, the answer for every input, and what the answer is close to.
-use mathlib.Core.Bool.{Bool, true, false}
-use mathlib.Core.List.{List, [], _∷_}
+use mathlib.Core.Bool.{Bool}
 use Prim.Native.Nat.{ℕ, _-_, _^_, _≤_}
 use lib.IntN.{ℤ, pos, negℤ, natAbs, _+ℤ_, _*ℤ_}
 use Rattle.algebra.specs.Gauss.{𝔾, gi, _-ᵍ_, _*ᵍ_}
@@ -10,16 +9,15 @@ use Rattle.algebra.specs.Floor.{ceiling}
 use Rattle.algebra.specs.Parts.{abs}
 use Rattle.algebra.specs.Larger.{larger}
 use Rattle.series.specs.Series.{Sᵍ, Dᵍ, Dᶻ}
-use Rattle.point.specs.declared.Refusal.{Refusal}
-use Rattle.point.specs.declared.Refusal.the-variants.{Steps, Exponent, Part}
-use Rattle.point.specs.Refusal.{refusalNumber}
 use Rattle.point.specs.Point.{gauss}
 use Rattle.point.specs.Limits.{inSteps, inBox, inParts}
+use Rattle.answer.specs.declared.Refusal.the-variants.{Steps, Exponent, Part}
+use Rattle.answer.specs.declared.Figures.{Figures}
+use Rattle.answer.specs.declared.Answer.{Answer}
+use Rattle.answer.specs.declared.Answer.the-variants.{Answered, Refused}
+use Rattle.answer.specs.Refusal.{unless}
 use Rattle.entries.specs.Promise.{StepTable}
 use Rattle.entries.specs.Table.{stepTable}
-use Rattle.exponential.specs.declared.Figures.{Figures}
-use Rattle.exponential.specs.declared.Answer.{Answer}
-use Rattle.exponential.specs.declared.Answer.the-variants.{Answered, Refused}
 use Rattle.iteration.specs.declared.State.{State}
 use Rattle.iteration.specs.declared.Mode.the-variants.{Exp}
 use Rattle.iteration.specs.State.{state, run}
@@ -37,19 +35,14 @@ unfoldable pub errorBound : ℕ → 𝔾 → ℤ
 errorBound n s = ceiling (pos 8 *ℤ larger s) (2 ^ n) +ℤ rounding-share *ℤ pos n
 
 -- ---- the answer for every input
--- turned away with r, unless the test holds
-abbrev pub unless : Bool → Refusal → Answer → Answer
-unless true r a = a
-unless false r a = Refused r
-
 module _ (F : ℕ) (t : StepTable) where
   -- "For n = 1 to N: .. The start takes the step; the exponent loses the table entry": the state of start and exponent after n steps
   abbrev pub ended : ℕ → 𝔾 → 𝔾 → State
   ended n e s = run F t Exp 0 n (state s e)
 
-  -- "The answer is the last start"
+  -- "The answer is the last start"; "k, q (both 0 for EXP)"
   abbrev pub figures : ℕ → 𝔾 → 𝔾 → Figures
-  figures n e s = record { value = ended n e s .point; «error_bound» = errorBound n s }
+  figures n e s = record { value = ended n e s .point; «binary_exponent» = pos 0; quadrant = pos 0; «error_bound» = errorBound n s }
 
   -- "first 1, N outside 1 to 40; then 2, exponent outside the rectangle; then 3, a start part over 2^58 in size"
   unfoldable pub answer : ℤ → 𝔾 → 𝔾 → Answer
@@ -58,11 +51,6 @@ module _ (F : ℕ) (t : StepTable) where
 -- of exp (n, (ex, ey), (sx, sy))
 unfoldable pub expAnswer : ℤ → ℤ → ℤ → ℤ → ℤ → Answer
 expAnswer n ex ey sx sy = answer 48 stepTable n (gi ex ey) (gi sx sy)
-
--- 01's six numbers of an answer: "the refusal number or 0, the two parts, k, q (both 0 for EXP) and the column"
-unfoldable pub expRecord : Answer → List ℤ
-expRecord (Answered f) = pos 0 ∷ f .value .x ∷ f .value .y ∷ pos 0 ∷ pos 0 ∷ f .«error_bound» ∷ []
-expRecord (Refused r) = refusalNumber r ∷ pos 0 ∷ pos 0 ∷ pos 0 ∷ pos 0 ∷ pos 0 ∷ []
 
 -- ---- what demand 3 compares, at T terms: the exponential is S T/D T, and both sides are multiplied by the divisors 2^N and D T
 -- "the answer, less the start times the exact exponential of the given exponent"

@@ -9,11 +9,12 @@ use Rattle.algebra.specs.Larger.{larger}
 use Rattle.word.specs.Compare.{between}
 use Rattle.point.specs.Limits.{inSteps, inBox, inParts}
 use Rattle.point.specs.Step.{quotient, step}
+use Rattle.answer.specs.Record.{recordOf}
 use Rattle.entries.specs.Numbers48.{stepLogs}
 use Rattle.entries.specs.Table.{stepTable}
 use Rattle.iteration.specs.Select.{exp-select}
 use Rattle.iteration.specs.State.{select, next, run}
-use Rattle.exponential.specs.Answer.{inRectangle, errorBound, answer, expAnswer, expRecord}
+use Rattle.exponential.specs.Answer.{inRectangle, errorBound, answer, expAnswer}
 
 -- ---- the limits by 01's numbers
 by-numbers : (n : ℤ) (e s : 𝔾) →
@@ -27,6 +28,6 @@ abbrev one : ℤ
 one = pos 281474976710656
 
 -- ---- 1|EXP|40|0|0|281474976710656|0 answers 281474976710656|0|2168
-pub kernel-one : expRecord (expAnswer (pos 40) (pos 0) (pos 0) one (pos 0)) ≡ pos 0 ∷ one ∷ pos 0 ∷ pos 0 ∷ pos 0 ∷ pos 2168 ∷ []
-unfolding expRecord expAnswer answer inSteps inRectangle inParts inBox between errorBound ceiling larger abs run next select exp-select step quotient stepTable stepLogs _+ᵍ_ negᵍ
+pub kernel-one : recordOf (expAnswer (pos 40) (pos 0) (pos 0) one (pos 0)) ≡ pos 0 ∷ one ∷ pos 0 ∷ pos 0 ∷ pos 0 ∷ pos 2168 ∷ []
+unfolding recordOf expAnswer answer inSteps inRectangle inParts inBox between errorBound ceiling larger abs run next select exp-select step quotient stepTable stepLogs _+ᵍ_ negᵍ
 kernel-one = refl

@@ -6,21 +6,12 @@ ghost use Rattle.algebra.specs.Larger.{larger};
 ghost use Rattle.algebra.specs.Power.{two};
 ghost use Rattle.point.specs.Point.{gauss};
 ghost use Rattle.exponential.specs.Answer.{errorBound, expAnswer, Close};
+use answer::Answer;
+use answer::Figures;
+use answer::Refusal;
 use iteration::Mode;
 use iteration::State;
 use point::Point;
-use point::Refusal;
-
-// The start times the exponential of the exponent, nearly, and a bound of the error in each part, in units.
-pub struct Figures {
-    pub value: Point,
-    pub error_bound: i64,
-}
-
-pub enum Answer {
-    Answered(Figures),
-    Refused(Refusal),
-}
 
 // The absolute value.
 fn size(x: i64) -> i64
@@ -90,5 +81,10 @@ pub fn exp(n: i64, exponent: Point, start: Point) -> Answer
     );
     let value = end.point;
     let error_bound = error_bound(steps, start);
-    Answer::Answered(Figures { value, error_bound })
+    Answer::Answered(Figures {
+        value,
+        binary_exponent: 0,
+        quadrant: 0,
+        error_bound,
+    })
 }

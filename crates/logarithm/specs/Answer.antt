@@ -1,6 +1,5 @@
--- LOG as 01 states it, for every input: the limits, the error bound, the answer, its six numbers, and what it is close to.
-use mathlib.Core.Bool.{Bool, true, false, not}
-use mathlib.Core.List.{List, [], _∷_}
+-- LOG as 01 states it, for every input: the limits, the error bound, the answer, and what it is close to.
+use mathlib.Core.Bool.{Bool, not}
 use Prim.Native.Nat.{ℕ, _^_, _≤_}
 use lib.IntN.{ℤ, pos, natAbs, _*ℤ_}
 use Rattle.algebra.specs.Gauss.{𝔾, gi, ιᵍ, _-ᵍ_, _*ᵍ_}
@@ -10,16 +9,15 @@ use Rattle.algebra.specs.Floor.{ceiling}
 use Rattle.algebra.specs.Parts.{abs}
 use Rattle.algebra.specs.Larger.{larger}
 use Rattle.series.specs.Series.{Sᵍ, Dᵍ, Dᶻ}
-use Rattle.point.specs.declared.Refusal.{Refusal}
-use Rattle.point.specs.declared.Refusal.the-variants.{Steps, Part, Zero}
-use Rattle.point.specs.Refusal.{refusalNumber}
 use Rattle.point.specs.Point.{gauss, point}
 use Rattle.point.specs.Limits.{inSteps, inBox, inParts}
+use Rattle.answer.specs.declared.Refusal.the-variants.{Steps, Part, Zero}
+use Rattle.answer.specs.declared.Figures.{Figures}
+use Rattle.answer.specs.declared.Answer.{Answer}
+use Rattle.answer.specs.declared.Answer.the-variants.{Answered, Refused}
+use Rattle.answer.specs.Refusal.{unless}
 use Rattle.entries.specs.Promise.{StepTable, ReciprocalTable}
 use Rattle.entries.specs.Table.{stepTable, reciprocalTable}
-use Rattle.logarithm.specs.declared.Figures.{Figures}
-use Rattle.logarithm.specs.declared.Answer.{Answer}
-use Rattle.logarithm.specs.declared.Answer.the-variants.{Answered, Refused}
 use Rattle.logarithm.specs.Quadrant.{i^}
 use Rattle.logarithm.specs.Scale.{power}
 use Rattle.logarithm.specs.Run.{Log, log}
@@ -35,11 +33,6 @@ unfoldable pub errorBound : ℕ → 𝔾 → ℤ
 errorBound n p = ceiling (pos 3 *ℤ larger p) (2 ^ n)
 
 -- ---- the answer for every input
--- turned away with r, unless the test holds
-abbrev pub unless : Bool → Refusal → Answer → Answer
-unless true r a = a
-unless false r a = Refused r
-
 abbrev pub figures : Log → ℤ → Figures
 figures r b = record { value = point (r .z); «binary_exponent» = r .k; quadrant = r .q; «error_bound» = b }
 
@@ -54,11 +47,6 @@ answerTo F steps logs n p =
 -- of log (n, (x, y))
 unfoldable pub logAnswer : ℤ → ℤ → ℤ → Answer
 logAnswer n x y = answerTo 48 stepTable reciprocalTable n (gi x y)
-
--- 01's six numbers of an answer: "the refusal number or 0, the two parts, k, q and the column", and "All figures, k, q and the column are zero"
-unfoldable pub logRecord : Answer → List ℤ
-logRecord (Answered f) = pos 0 ∷ f .value .x ∷ f .value .y ∷ f .«binary_exponent» ∷ f .quadrant ∷ f .«error_bound» ∷ []
-logRecord (Refused r) = refusalNumber r ∷ pos 0 ∷ pos 0 ∷ pos 0 ∷ pos 0 ∷ pos 0 ∷ []
 
 -- ---- what demand 3 compares, at T terms: the exponential is S T/D T, and both sides are multiplied by the divisors 2^N and D T
 -- "2^(48+k)·i^q times the exact exponential of the answer, less the given point in units"

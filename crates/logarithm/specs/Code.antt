@@ -10,12 +10,12 @@ use Rattle.algebra.specs.Within.{Within}
 use Rattle.algebra.specs.Parts.{Size, Parts}
 use Rattle.point.specs.declared.Point.{Point}
 use Rattle.point.specs.Point.{gauss, point}
+use Rattle.answer.specs.declared.Figures.{Figures}
 use Rattle.entries.specs.declared.Entry.{Entry}
 use Rattle.entries.specs.Rows.{number}
 use Rattle.entries.specs.Table.{stepTable, reciprocalTable}
 use Rattle.logarithm.specs.declared.reduction.Turn.{Turn}
 use Rattle.logarithm.specs.declared.reduction.State.{State}
-use Rattle.logarithm.specs.declared.Figures.{Figures}
 use Rattle.logarithm.specs.Quadrant.{turned, quadrant, Cone}
 use Rattle.logarithm.specs.Scale.{bit-length}
 use Rattle.logarithm.specs.Select.{half}

@@ -19,12 +19,13 @@ use Rattle.algebra.specs.Floor.{ceiling-enough, ceiling-least}
 use Rattle.algebra.specs.Larger.{larger, larger-parts, larger-le}
 use Rattle.word.specs.Compare.{between, is-between}
 use Rattle.point.specs.Limits.{inSteps, inBox, inParts, Counts, steps-say, parts-say}
-use Rattle.point.specs.declared.Refusal.the-variants.{Steps, Part, Zero}
+use Rattle.answer.specs.declared.Refusal.the-variants.{Steps, Part, Zero}
+use Rattle.answer.specs.declared.Answer.{Answer}
+use Rattle.answer.specs.declared.Answer.the-variants.{Answered, Refused}
+use Rattle.answer.specs.Refusal.{unless}
 use Rattle.entries.specs.Promise.{StepTable, ReciprocalTable, StepPromise, ReciprocalPromise}
 use Rattle.entries.specs.Table.{stepTable, reciprocalTable}
 use Rattle.entries.specs.Promise48.{step-promise, reciprocal-promise}
-use Rattle.logarithm.specs.declared.Answer.{Answer}
-use Rattle.logarithm.specs.declared.Answer.the-variants.{Answered, Refused}
 use Rattle.logarithm.specs.Quadrant.{turned, Cone, cone-pos, turned-cone, turned-re}
 use Rattle.logarithm.specs.Scale.{bit-length, binary-exponent, length-pos, length-le, scaled, scaled-ranges, Scaled}
 use Rattle.logarithm.specs.Cell.{column, row, in-table, reduced-near}
@@ -33,7 +34,7 @@ use Rattle.logarithm.specs.Run.{index, point-at, begun, begun-answer, an
 use Rattle.logarithm.specs.Convergence.{converges, converges-times}
 use Rattle.logarithm.specs.Size.{answer-size, log-within}
 use Rattle.logarithm.specs.Closeness.{log-close}
-use Rattle.logarithm.specs.Answer.{isZero, errorBound, unless, figures, answerTo, logAnswer, Close, CloseAt}
+use Rattle.logarithm.specs.Answer.{isZero, errorBound, figures, answerTo, logAnswer, Close, CloseAt}
 
 -- ---- the zero point: M is nought at nought alone
 nought : (x b : ℤ) → Size x b → b +ℤ pos 1 ⩽ pos 1 → between (pos 0) (pos 0) x ≡ true

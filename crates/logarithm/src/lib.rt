@@ -11,26 +11,15 @@ ghost use Rattle.logarithm.specs.Select.{cut, select};
 ghost use Rattle.logarithm.specs.Answer.{logAnswer, Close};
 ghost use Rattle.logarithm.specs.Code.{SelectPre, LessPre, RunPre, runOf, BoundPre, boundAt, figuresOf};
 ghost use Rattle.logarithm.specs.Laws.{Accepted};
+use answer::Answer;
+use answer::Figures;
+use answer::Refusal;
 use entries::Entry;
 use point::Digit;
 use point::Point;
-use point::Refusal;
 use reduction::State;
 
 mod reduction;
-
-// The logarithm in units: the point is 2^binary_exponent * i^quadrant * exp(value), nearly, and error_bound says how nearly.
-pub struct Figures {
-    pub value: Point,
-    pub binary_exponent: i64,
-    pub quadrant: i64,
-    pub error_bound: i64,
-}
-
-pub enum Answer {
-    Answered(Figures),
-    Refused(Refusal),
-}
 
 // ---- the digit of a step
 

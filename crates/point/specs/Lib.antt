@@ -4,5 +4,4 @@ pub mod Digit
 pub mod Step
 pub mod Fits
 pub mod Point
-pub mod Refusal
 pub mod Limits

@@ -6,13 +6,14 @@ use lib.IntN.{ℤ, pos}
 use Rattle.word.specs.Compare.{between}
 use Rattle.point.specs.Limits.{inSteps, inBox, inParts}
 use Rattle.point.specs.declared.Point.{Point}
-use Rattle.exponential.specs.Answer.{answer, expAnswer, expRecord}
+use Rattle.answer.specs.Record.{recordOf}
+use Rattle.exponential.specs.Answer.{answer, expAnswer}
 use Rattle.exponential.specs.Cases.{kernel-one}
-use Rattle.logarithm.specs.Answer.{isZero, answerTo, logAnswer, logRecord}
+use Rattle.logarithm.specs.Answer.{isZero, answerTo, logAnswer}
 use Rattle.text.specs.Decimal.{value, readNatural, readNumber}
 use Rattle.text.specs.Fields.{split, sameBytes}
 use Rattle.text.specs.Line.{EXP, REF, numbers, kindLine, lineOf, readLine}
-use Rattle.text.specs.Answer.{lineBytes, expReply, logReply, replyOf, reply}
+use Rattle.text.specs.Answer.{lineBytes, replyOf, reply}
 use Rattle.text.specs.declared.Line.the-variants.{Exp, Log}
 use Rattle.stream.specs.Sheet.{ended, lines, answered, answeredAll, heading, sheet}
 
@@ -53,25 +54,25 @@ exp₃ : readLine line₃ ≡ Exp (pos 3) (pos 0) (at (pos 0) (pos 0)) (at (pos 
 unfolding readLine lineOf kindLine numbers readNumber readNatural value sameBytes between split line₃
 exp₃ = refl
 
-no-logarithm : logRecord (logAnswer (pos 40) (pos 0) (pos 0)) ≡ pos 4 ∷ pos 0 ∷ pos 0 ∷ pos 0 ∷ pos 0 ∷ pos 0 ∷ []
-unfolding logRecord logAnswer answerTo inSteps inParts inBox isZero between
+no-logarithm : recordOf (logAnswer (pos 40) (pos 0) (pos 0)) ≡ pos 4 ∷ pos 0 ∷ pos 0 ∷ pos 0 ∷ pos 0 ∷ pos 0 ∷ []
+unfolding recordOf logAnswer answerTo inSteps inParts inBox isZero between
 no-logarithm = refl
 
-no-steps : expRecord (expAnswer (pos 0) (pos 0) (pos 0) (pos 0) (pos 0)) ≡ pos 1 ∷ pos 0 ∷ pos 0 ∷ pos 0 ∷ pos 0 ∷ pos 0 ∷ []
-unfolding expRecord expAnswer answer inSteps between
+no-steps : recordOf (expAnswer (pos 0) (pos 0) (pos 0) (pos 0) (pos 0)) ≡ pos 1 ∷ pos 0 ∷ pos 0 ∷ pos 0 ∷ pos 0 ∷ pos 0 ∷ []
+unfolding recordOf expAnswer answer inSteps between
 no-steps = refl
 
 answer₁ : answered line₁ ≡ lineBytes (pos 1) EXP (pos 40 ∷ pos (2 ^ 48) ∷ pos 0 ∷ pos 2168 ∷ [])
 unfolding answered reply replyOf
-answer₁ = ap (λ l. replyOf l .bytes) exp₁ ∙ ap (λ r. expReply (pos 1) (pos 40) r .bytes) kernel-one
+answer₁ = ap (λ l. replyOf l .bytes) exp₁ ∙ rw kernel-one
 
 answer₂ : answered line₂ ≡ lineBytes (pos 2) REF (pos 4 ∷ [])
 unfolding answered reply replyOf
-answer₂ = ap (λ l. replyOf l .bytes) log₂ ∙ ap (λ r. logReply (pos 2) (pos 40) r .bytes) no-logarithm
+answer₂ = ap (λ l. replyOf l .bytes) log₂ ∙ rw no-logarithm
 
 answer₃ : answered line₃ ≡ lineBytes (pos 3) REF (pos 1 ∷ [])
 unfolding answered reply replyOf
-answer₃ = ap (λ l. replyOf l .bytes) exp₃ ∙ ap (λ r. expReply (pos 3) (pos 0) r .bytes) no-steps
+answer₃ = ap (λ l. replyOf l .bytes) exp₃ ∙ rw no-steps
 
 -- THE RUN: BKM|48, 1|EXP|40|281474976710656|0|2168, 2|REF|4, 3|REF|1
 pub whole-run : sheet given ≡

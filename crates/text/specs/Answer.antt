@@ -6,11 +6,14 @@ use Prim.Native.Nat.{ℕ, zero, suc}
 use lib.Dec.{ltb}
 use lib.IntN.{ℤ, pos, negsuc}
 use lib.ListN.{length, drop}
-use Rattle.exponential.specs.Answer.{expAnswer, expRecord}
-use Rattle.logarithm.specs.Answer.{logAnswer, logRecord}
+use Rattle.answer.specs.Record.{recordOf, refusal-in, re-in, im-in, binary-exponent-in, quadrant-in, error-bound-in}
+use Rattle.exponential.specs.Answer.{expAnswer}
+use Rattle.logarithm.specs.Answer.{logAnswer}
 use Rattle.text.specs.Decimal.{showNumber}
-use Rattle.text.specs.Line.{EXP, LOG, REF, nth, readLine}
+use Rattle.text.specs.Line.{EXP, LOG, REF, readLine}
 use Rattle.text.specs.Put.{Front}
+use Rattle.text.specs.declared.Kind.{Kind}
+use Rattle.text.specs.declared.Kind.the-variants as kind
 use Rattle.text.specs.declared.Line.{Line}
 use Rattle.text.specs.declared.Line.the-variants as line
 
@@ -23,12 +26,15 @@ fieldBytes (z ∷ zs) = 9 ∷ showNumber z ++ fieldBytes zs
 unfoldable pub lineBytes : ℤ → List ℕ → List ℤ → List ℕ
 lineBytes serial word zs = showNumber serial ++ (9 ∷ word) ++ fieldBytes zs ++ 10 ∷ []
 
--- THE FIELDS of an answer line from N on, out of the answer's six numbers (01, Points and units): the parts, for LOG k and q, the column
-abbrev pub expFields : ℤ → List ℤ → List ℤ
-expFields n r = n ∷ nth r 1 ∷ nth r 2 ∷ nth r 5 ∷ []
+-- ---- an answer of either kind, out of its record: "kernel number, kind, N, the two parts, for LOG k and q, then the column"
+abbrev pub wordOf : Kind → List ℕ
+wordOf kind.Exp = EXP
+wordOf kind.Log = LOG
 
-abbrev pub logFields : ℤ → List ℤ → List ℤ
-logFields n r = n ∷ nth r 1 ∷ nth r 2 ∷ nth r 3 ∷ nth r 4 ∷ nth r 5 ∷ []
+-- THE FIELDS from N on
+abbrev pub fieldsOf : Kind → ℤ → List ℤ → List ℤ
+fieldsOf kind.Exp n r = n ∷ re-in r ∷ im-in r ∷ error-bound-in r ∷ []
+fieldsOf kind.Log n r = n ∷ re-in r ∷ im-in r ∷ binary-exponent-in r ∷ quadrant-in r ∷ error-bound-in r ∷ []
 
 -- ---- what a line is answered: the refusal number or 0, and the bytes
 pub record Reply : Type 0 where
@@ -38,23 +44,20 @@ pub record Reply : Type 0 where
 abbrev pub refusedReply : ℤ → ℤ → Reply
 refusedReply serial refusal = record { refusal = refusal; bytes = lineBytes serial REF (refusal ∷ []) }
 
--- by the first of the six numbers, the refusal number or 0
+-- by the refusal number or 0
 abbrev pub replyBy : ℤ → ℤ → List ℕ → List ℤ → Reply
 replyBy (pos zero) serial kind zs = record { refusal = pos 0; bytes = lineBytes serial kind zs }
 replyBy (pos (suc k)) serial kind zs = refusedReply serial (pos (suc k))
 replyBy (negsuc k) serial kind zs = refusedReply serial (negsuc k)
 
-abbrev pub expReply : ℤ → ℤ → List ℤ → Reply
-expReply serial n r = replyBy (nth r 0) serial EXP (expFields n r)
-
-abbrev pub logReply : ℤ → ℤ → List ℤ → Reply
-logReply serial n r = replyBy (nth r 0) serial LOG (logFields n r)
+abbrev pub answerReply : Kind → ℤ → ℤ → List ℤ → Reply
+answerReply k serial n r = replyBy (refusal-in r) serial (wordOf k) (fieldsOf k n r)
 
 -- a malformed line is answered 0, REF, 5
 unfoldable pub replyOf : Line → Reply
 replyOf line.Malformed = refusedReply (pos 0) (pos 5)
-replyOf (line.Exp serial n exponent start) = expReply serial n (expRecord (expAnswer n (exponent .x) (exponent .y) (start .x) (start .y)))
-replyOf (line.Log serial n point) = logReply serial n (logRecord (logAnswer n (point .x) (point .y)))
+replyOf (line.Exp serial n exponent start) = answerReply kind.Exp serial n (recordOf (expAnswer n (exponent .x) (exponent .y) (start .x) (start .y)))
+replyOf (line.Log serial n point) = answerReply kind.Log serial n (recordOf (logAnswer n (point .x) (point .y)))
 
 unfoldable pub reply : List ℕ → Reply
 reply l = replyOf (readLine l)

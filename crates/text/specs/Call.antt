@@ -12,13 +12,14 @@ use mir.Val.{SFits, toZ, ofZ}
 use borrow.Author.Tests.{lt-ltb, le-ltb}
 use Rattle.word.specs.Fits.{back, sfits-mag}
 use Rattle.word.specs.Compare.{between}
-use Rattle.point.specs.declared.Refusal.{Refusal}
-use Rattle.point.specs.declared.Refusal.the-variants as why
-use Rattle.point.specs.Refusal.{refusalNumber}
 use Rattle.point.specs.Limits.{inSteps}
-use Rattle.logarithm.specs.Answer.{unless, answerTo, logAnswer}
-use Rattle.logarithm.specs.declared.Answer.{Answer}
-use Rattle.logarithm.specs.declared.Answer.the-variants.{Answered, Refused}
+use Rattle.answer.specs.declared.Refusal.{Refusal}
+use Rattle.answer.specs.declared.Refusal.the-variants as why
+use Rattle.answer.specs.declared.Answer.{Answer}
+use Rattle.answer.specs.declared.Answer.the-variants.{Answered, Refused}
+use Rattle.answer.specs.Refusal.{refusalNumber, unless}
+use Rattle.exponential.specs.Answer.{answer, expAnswer}
+use Rattle.logarithm.specs.Answer.{answerTo, logAnswer}
 use Rattle.scan.specs.Either.{either}
 use Rattle.text.specs.Decimal.{showNumber, readNumber}
 use Rattle.text.specs.Written.{short-range}
@@ -30,18 +31,26 @@ use Rattle.text.specs.declared.reading.Number.the-variants as num
 use Rattle.text.specs.declared.Line.{Line}
 use Rattle.text.specs.declared.Line.the-variants as line
 
--- ---- the count of steps that LOG accepts has at most 2 digits
-abbrev pub IsAnswered : Answer → Type 0
-IsAnswered (Answered f) = Unit {0}
-IsAnswered (Refused r) = ⊥
+-- ---- a count of steps that is accepted has at most 2 digits
+abbrev pub ShortSteps : ℤ → Answer → Type 0
+ShortSteps n (Answered f) = length (showNumber n) ≤ 2
+ShortSteps n (Refused r) = Unit {0}
 
-pub short-steps : (n x y : ℤ) → IsAnswered (logAnswer n x y) → length (showNumber n) ≤ 2
-unfolding logAnswer answerTo inSteps
-short-steps n x y h = short-range 3 1 n (lit< tt) (first (between (pos 3) (pos 40) n) _ _ h)
+short-steps : (lo : ℕ) (n : ℤ) (a : Answer) → ShortSteps n (unless (between (pos lo) (pos 40) n) why.Steps a)
+short-steps lo n a = go (between (pos lo) (pos 40) n) refl a
   where
-    first : (b : Bool) (r : Refusal) (a : Answer) → IsAnswered (unless b r a) → b ≡ true
-    first true r a h = refl
-    first false r a h = absurd h
+    go : (b : Bool) → between (pos lo) (pos 40) n ≡ b → (a : Answer) → ShortSteps n (unless b why.Steps a)
+    go true e (Answered f) = short-range lo 1 n (lit< tt) e
+    go true e (Refused r) = tt
+    go false e a = tt
+
+pub short-exp : (n ex ey sx sy : ℤ) → ShortSteps n (expAnswer n ex ey sx sy)
+unfolding expAnswer answer inSteps
+short-exp n ex ey sx sy = short-steps 1 n _
+
+pub short-log : (n x y : ℤ) → ShortSteps n (logAnswer n x y)
+unfolding logAnswer answerTo inSteps
+short-log n x y = short-steps 3 n _
 
 -- ---- no refusal's number is 0
 refused-reply : (r : Refusal) (serial : ℤ) (kind : List ℕ) (zs : List ℤ) →

@@ -3,15 +3,25 @@ ghost use mathlib.Core.Path.{_≡_};
 ghost use Prim.Native.Nat.{_+_, _≤_};
 ghost use lib.IntN.{natAbs};
 ghost use lib.ListN.{length};
+ghost use Rattle.answer.specs.Record.{recordOf};
 ghost use Rattle.text.specs.Put.{Put, Front};
 ghost use Rattle.text.specs.Decimal.{showNatural, showNumber};
 ghost use Rattle.text.specs.Fields.{fieldsAt};
 ghost use Rattle.text.specs.Line.{IsSerial, numbers, formed, expOf, logOf, kindLine, readLine};
-ghost use Rattle.text.specs.Answer.{fieldBytes, lineBytes, refusedReply, replyOf, Replied, refusalOf, countOf, outOf};
+ghost use Rattle.text.specs.Answer.{fieldBytes, lineBytes, wordOf, fieldsOf, refusedReply, answerReply, Replied, refusalOf, countOf, outOf};
+ghost use Rattle.text.specs.Call.{ShortSteps};
+use answer::Answer;
+use answer::Figures;
 use point::Point;
 use reading::Number;
 
 mod reading;
+
+// The operation that a line asks for.
+enum Kind {
+    Exp,
+    Log,
+}
 
 // A line of a sheet.
 pub enum Line {
@@ -203,50 +213,43 @@ fn refused(serial: i64, refusal: i64, out: &mut [u8]) -> LineAnswer
     LineAnswer { refusal, written }
 }
 
-fn answer_exp(serial: i64, n: i64, exponent: Point, start: Point, out: &mut [u8]) -> LineAnswer
-    requires { ⌜ (128 ≤ length (now out)) × IsSerial serial ⌝ }
-    ensures { λ r. ⌜ Replied (replyOf (Line.Exp serial n exponent start)) (now (out .entry)) (now (out .exit)) (r .refusal) (r .written) ⌝ }
+// The figures of an answer, as a line of its kind.
+fn put_figures(kind: Kind, serial: i64, n: i64, f: Figures, out: &mut [u8]) -> usize
+    requires { ⌜ (128 ≤ length (now out)) × IsSerial serial × (length (showNumber n) ≤ 2) ⌝ }
+    ensures { λ r. ⌜ Front (lineBytes serial (wordOf kind) (fieldsOf kind n (recordOf (Answer.Answered f)))) (now (out .entry)) (now (out .exit)) r ⌝ }
 {
-    match exponential::exp(n, exponent, start) {
-        exponential::Answer::Answered(f) => {
-            let value = f.value;
-            let x = value.x;
-            let y = value.y;
-            let error_bound = f.error_bound;
+    let value = f.value;
+    let x = value.x;
+    let y = value.y;
+    let binary_exponent = f.binary_exponent;
+    let quadrant = f.quadrant;
+    let error_bound = f.error_bound;
+    match kind {
+        Kind::Exp => {
             let fields = [n, x, y, error_bound];
-            let written = put_line(serial, b"EXP", &fields, out);
-            LineAnswer {
-                refusal: 0,
-                written,
-            }
+            put_line(serial, b"EXP", &fields, out)
         }
-        exponential::Answer::Refused(r) => {
-            let number = r.number();
-            refused(serial, number, out)
+        Kind::Log => {
+            let fields = [n, x, y, binary_exponent, quadrant, error_bound];
+            put_line(serial, b"LOG", &fields, out)
         }
     }
 }
 
-fn answer_log(serial: i64, n: i64, point: Point, out: &mut [u8]) -> LineAnswer
-    requires { ⌜ (128 ≤ length (now out)) × IsSerial serial ⌝ }
-    ensures { λ r. ⌜ Replied (replyOf (Line.Log serial n point)) (now (out .entry)) (now (out .exit)) (r .refusal) (r .written) ⌝ }
+// An answer of either kind.
+fn put_answer(kind: Kind, serial: i64, n: i64, answer: Answer, out: &mut [u8]) -> LineAnswer
+    requires { ⌜ (128 ≤ length (now out)) × IsSerial serial × ShortSteps n answer ⌝ }
+    ensures { λ r. ⌜ Replied (answerReply kind serial n (recordOf answer)) (now (out .entry)) (now (out .exit)) (r .refusal) (r .written) ⌝ }
 {
-    match logarithm::log(n, point) {
-        logarithm::Answer::Answered(f) => {
-            let value = f.value;
-            let x = value.x;
-            let y = value.y;
-            let binary_exponent = f.binary_exponent;
-            let quadrant = f.quadrant;
-            let error_bound = f.error_bound;
-            let fields = [n, x, y, binary_exponent, quadrant, error_bound];
-            let written = put_line(serial, b"LOG", &fields, out);
+    match answer {
+        Answer::Answered(f) => {
+            let written = put_figures(kind, serial, n, f, out);
             LineAnswer {
                 refusal: 0,
                 written,
             }
         }
-        logarithm::Answer::Refused(r) => {
+        Answer::Refused(r) => {
             let number = r.number();
             refused(serial, number, out)
         }
@@ -272,7 +275,13 @@ pub fn answer_line(line: &[u8], out: &mut [u8]) -> LineAnswer
             n,
             exponent,
             start,
-        } => answer_exp(serial, n, exponent, start, out),
-        Line::Log { serial, n, point } => answer_log(serial, n, point, out),
+        } => {
+            let answer = exponential::exp(n, exponent, start);
+            put_answer(Kind::Exp, serial, n, answer, out)
+        }
+        Line::Log { serial, n, point } => {
+            let answer = logarithm::log(n, point);
+            put_answer(Kind::Log, serial, n, answer, out)
+        }
     }
 }

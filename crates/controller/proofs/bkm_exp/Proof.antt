@@ -1,7 +1,5 @@
 -- `controller::bkm_exp` meets its contract.
-use mathlib.Core.Path.{ap, _∙_}
 use Rattle.word.specs.Fits.{back}
-use Rattle.exponential.specs.Answer.{expRecord}
 use Rattle.controller.specs.Record.{called}
 use borrow.Author.Needs.{needs}
 use Rattle.controller.proofs.bkm_exp.Statement.{statement}
@@ -9,9 +7,6 @@ use Rattle.controller.proofs.bkm_exp.Tie as tie
 
 exp-requires : tie.Need-exp-requires
 exp-requires c κs = search needs
-
-exp-record-requires : tie.Need-exp-record-requires
-exp-record-requires c κs = search needs
 
 hand-over-requires : tie.Need-hand-over-requires
 hand-over-requires c κs = search needs
@@ -22,11 +17,10 @@ same-length c = search needs
 returns : tie.Need-returns
 returns c =
     let h = c .before .before in
-    let r = h .before .before in
-    let s = r .before .before .before in
-    let answer = rw (back (s .fits .n), back (s .fits .ex), back (s .fits .ey), back (s .fits .sx), back (s .fits .sy)) at (r .before .exp .ensures .0) in
-    called (s .args .out .now) (r .exp-record .ensures ∙ ap expRecord answer) (h .hand-over .ok) (h .hand-over .ensures)
+    let e = h .before .before in
+    let s = e .before .before in
+    let answer = rw (back (s .fits .n), back (s .fits .ex), back (s .fits .ey), back (s .fits .sx), back (s .fits .sy)) at (e .exp .ensures .0) in
+    called (s .args .out .now) answer (h .hand-over .ok) (h .hand-over .ensures)
 
 pub bkm-exp-spec : {M : Type 1} → statement M
-bkm-exp-spec =
-    tie.close (tie.spec exp-requires exp-record-requires hand-over-requires same-length returns)
+bkm-exp-spec = tie.close (tie.spec exp-requires hand-over-requires same-length returns)

@@ -1,7 +1,5 @@
 -- `controller::bkm_log` meets its contract.
-use mathlib.Core.Path.{ap, _∙_}
 use Rattle.word.specs.Fits.{back}
-use Rattle.logarithm.specs.Answer.{logRecord}
 use Rattle.controller.specs.Record.{called}
 use borrow.Author.Needs.{needs}
 use Rattle.controller.proofs.bkm_log.Statement.{statement}
@@ -9,9 +7,6 @@ use Rattle.controller.proofs.bkm_log.Tie as tie
 
 log-requires : tie.Need-log-requires
 log-requires c κs = search needs
-
-log-record-requires : tie.Need-log-record-requires
-log-record-requires c κs = search needs
 
 hand-over-requires : tie.Need-hand-over-requires
 hand-over-requires c κs = search needs
@@ -22,11 +17,10 @@ same-length c = search needs
 returns : tie.Need-returns
 returns c =
     let h = c .before .before in
-    let r = h .before .before in
-    let s = r .before .before .before in
-    let answer = rw (back (s .fits .n), back (s .fits .x), back (s .fits .y)) at (r .before .log .ensures .0) in
-    called (s .args .out .now) (r .log-record .ensures ∙ ap logRecord answer) (h .hand-over .ok) (h .hand-over .ensures)
+    let l = h .before .before in
+    let s = l .before .before in
+    let answer = rw (back (s .fits .n), back (s .fits .x), back (s .fits .y)) at (l .log .ensures .0) in
+    called (s .args .out .now) answer (h .hand-over .ok) (h .hand-over .ensures)
 
 pub bkm-log-spec : {M : Type 1} → statement M
-bkm-log-spec =
-    tie.close (tie.spec log-requires log-record-requires hand-over-requires same-length returns)
+bkm-log-spec = tie.close (tie.spec log-requires hand-over-requires same-length returns)

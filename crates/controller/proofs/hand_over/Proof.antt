@@ -11,6 +11,9 @@ use Rattle.controller.proofs.hand_over.Tie as tie
 returns : tie.Need-returns
 returns c = rw (lt-ltb (length (c .before .before .args .out .now)) 48 (omega arith)) (refl, refl)
 
+record-requires : tie.Need-record-requires
+record-requires c κs = search needs
+
 slice-aggregate-put-numbers : tie.Need-slice-aggregate-put-numbers
 slice-aggregate-put-numbers c = search needs
 
@@ -26,16 +29,16 @@ same-length c = search needs
 returns-2 : tie.Need-returns-2
 returns-2 c =
     let p = c .before .before .before in
-    let e = p .before .before .before in
-    let s = e .before .before in
-    let n : length (s .args .t1) ≡ 6 = search needs in
-    rw (le-ltb _ _ (e .if1 .left)) (back (sfits-mag _ (c .result .given)), rw n at (p .put-numbers .ensures))
+    let a = p .before .before .before in
+    let n : length (a .«record» .result) ≡ 6 = search needs in
+    rw (le-ltb _ _ (a .before .if1 .left), ← a .«record» .ensures) (back (sfits-mag _ (c .result .given)), rw n at (p .put-numbers .ensures))
 
 pub hand-over-spec : {M : Type 1} → statement M
 hand-over-spec =
     tie.close
     (tie.spec
     returns
+    record-requires
     slice-aggregate-put-numbers
     put-numbers-requires
     array-copy-out-result

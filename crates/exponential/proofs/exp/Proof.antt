@@ -3,15 +3,15 @@ use mathlib.Core.Path.{_≡_, sym, _∙_, ap}
 use mathlib.Core.Bool.{true}
 use Prim.Native.Nat.{_-_}
 use native.Mathlib.Omega.{arith}
-use lib.IntN.{natAbs}
+use lib.IntN.{pos, natAbs}
 use borrow.Author.Tests.{not-true, not-false}
 use Rattle.word.specs.Fits.{back, sfits-mag}
 use Rattle.point.specs.Point.{gauss}
 use Rattle.point.specs.Limits.{inSteps, inParts, steps-say, parts-say}
+use Rattle.answer.specs.declared.Answer.the-variants.{Answered}
 use Rattle.entries.specs.Table.{stepTable}
 use Rattle.entries.specs.Promise48.{step-promise}
 use Rattle.iteration.specs.declared.State.{State}
-use Rattle.exponential.specs.declared.Answer.the-variants.{Answered}
 use Rattle.exponential.specs.Answer.{inRectangle}
 use Rattle.exponential.specs.Fits.{run-fits}
 use Rattle.exponential.specs.Close.{Accepted, rectangle-says, refused-steps, refused-exponent, refused-part, answered, settled}
@@ -106,7 +106,7 @@ returns-4 c =
     let bound = back (sfits-mag (c .error-bound .result) (c .error-bound .ok)) ∙ (simp (back, s .fits .n) at (c .error-bound .ensures)) in
     settled (a .n) (a .exponent .x) (a .exponent .y) (a .start .x) (a .start .y)
     (answered 48 stepTable (a .n) (gauss (a .exponent)) (gauss (a .start)) (accepted (r .before))
-    ∙ sym (λ i. Answered (record { value = value i; «error_bound» = bound i })))
+    ∙ sym (λ i. Answered (record { value = value i; «binary_exponent» = pos 0; quadrant = pos 0; «error_bound» = bound i })))
 
 pub exp-spec : {M : Type 1} → statement M
 exp-spec =

@@ -8,8 +8,8 @@ use borrow.Author.Tests.{not-true, not-false}
 use Rattle.word.specs.Fits.{back}
 use Rattle.word.specs.Compare.{between}
 use Rattle.point.specs.Point.{gauss}
+use Rattle.answer.specs.declared.Answer.the-variants.{Answered}
 use Rattle.entries.specs.Table.{stepTable, reciprocalTable}
-use Rattle.logarithm.specs.declared.Answer.the-variants.{Answered}
 use Rattle.logarithm.specs.Code.{figuresOf}
 use Rattle.point.specs.Limits.{inSteps, inParts, steps-say}
 use Rattle.logarithm.specs.Answer.{isZero, logAnswer, Close}

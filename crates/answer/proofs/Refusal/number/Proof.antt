@@ -1,7 +1,7 @@
--- `point::Refusal::number` meets its contract.
+-- `answer::Refusal::number` meets its contract.
 use borrow.Author.Needs.{needs}
-use Rattle.point.proofs.Refusal.number.Statement.{statement}
-use Rattle.point.proofs.Refusal.number.Tie as tie
+use Rattle.answer.proofs.Refusal.number.Statement.{statement}
+use Rattle.answer.proofs.Refusal.number.Tie as tie
 
 enum-told : tie.Need-enum-told
 enum-told c = search needs

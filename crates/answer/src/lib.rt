@@ -1,0 +1,76 @@
+// What EXP and LOG answer: figures or a refusal, and the six numbers of 01's record of them.
+ghost use mathlib.Core.Path.{_≡_};
+ghost use Rattle.answer.specs.Refusal.{refusalNumber};
+ghost use Rattle.answer.specs.Record.{numbers, recordOf};
+use point::Point;
+
+// Why an input is turned away, with its number in 01.
+pub enum Refusal {
+    // 1: the count of steps is out of range
+    Steps,
+    // 2: the exponent lies outside the rectangle
+    Exponent,
+    // 3: a part is over 2^58 in size
+    Part,
+    // 4: the zero point has no logarithm
+    Zero,
+}
+
+// EXP: value is the start times the exponential of the exponent, nearly; binary_exponent and quadrant are 0. LOG: value is the logarithm;
+// the point is 2^binary_exponent * i^quadrant * exp(value), nearly. error_bound, in units, says how nearly.
+pub struct Figures {
+    pub value: Point,
+    pub binary_exponent: i64,
+    pub quadrant: i64,
+    pub error_bound: i64,
+}
+
+pub enum Answer {
+    Answered(Figures),
+    Refused(Refusal),
+}
+
+impl Refusal {
+    pub fn number(self) -> i64
+        ensures { λ r. ⌜ r ≡ refusalNumber self ⌝ }
+    {
+        match self {
+            Refusal::Steps => 1,
+            Refusal::Exponent => 2,
+            Refusal::Part => 3,
+            Refusal::Zero => 4,
+        }
+    }
+}
+
+// The record's numbers, in its order.
+fn numbers(refusal: i64, f: Figures) -> [i64; 6]
+    ensures { λ r. ⌜ r ≡ numbers refusal f ⌝ }
+{
+    let value = f.value;
+    let x = value.x;
+    let y = value.y;
+    let binary_exponent = f.binary_exponent;
+    let quadrant = f.quadrant;
+    let error_bound = f.error_bound;
+    [refusal, x, y, binary_exponent, quadrant, error_bound]
+}
+
+impl Answer {
+    pub fn record(self) -> [i64; 6]
+        ensures { λ r. ⌜ r ≡ recordOf self ⌝ }
+    {
+        match self {
+            Answer::Answered(f) => numbers(0, f),
+            Answer::Refused(r) => {
+                let none = Figures {
+                    value: Point::ZERO,
+                    binary_exponent: 0,
+                    quadrant: 0,
+                    error_bound: 0,
+                };
+                numbers(r.number(), none)
+            }
+        }
+    }
+}
