@@ -17,12 +17,8 @@ use point::Point;
 fn bits(z: i64) -> u64
     ensures { λ r. ⌜ r ≡ ofZ w64 z ⌝ }
 {
-    if z < 0 {
-        let n = (-(z + 1)) as u64;
-        0xffff_ffff_ffff_ffff - n
-    } else {
-        z as u64
-    }
+    let m = word::magnitude(z);
+    if z < 0 { 0xffff_ffff_ffff_ffff - m } else { m }
 }
 
 // Eight bytes of u from `at` on, the lowest first.

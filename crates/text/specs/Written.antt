@@ -9,7 +9,7 @@ use native.Mathlib.Nat.{pow-suc, div-lt-iff-lt-mul}
 use lib.Dec.{T, ltb, lit<, leb→le}
 use lib.IntN.{ℤ, pos, negsuc, natAbs}
 use lib.ListN.{length, length-append}
-use lib.Signed.{ltZ, mag, natAbs-le}
+use lib.Signed.{ltZ, natAbs-le}
 use mir.Syntax.{w64}
 use mir.Val.{SFits}
 use borrow.Author.Tests.{lt-ltb, le-ltb, ltb-true, ltb-false}
@@ -102,13 +102,6 @@ pub show-plus : (z : ℤ) → ltZ z (pos 0) ≡ false → showNumber z ≡ showN
 unfolding showNumber
 show-plus (pos n) e = refl
 show-plus (negsuc n) e = absurd (subst T e tt)
-
-pub size-minus : (z : ℤ) → ltZ z (pos 0) ≡ true → mag z + 1 ≡ natAbs z
-size-minus (pos n) e = absurd (none n (ltb-true n 0 e))
-  where
-    none : (n : ℕ) → n < 0 → ⊥
-    none n h = omega arith
-size-minus (negsuc n) e = omega arith
 
 -- 19 digits and a sign at most
 short-size : (z : ℤ) → SFits w64 z → length (showNatural (natAbs z)) ≤ 19

@@ -65,11 +65,8 @@ fn put_natural(v: u64, out: &mut [u8], at: usize) -> usize
 fn size(z: i64) -> u64
     ensures { λ r. ⌜ r ≡ natAbs z ⌝ }
 {
-    if z < 0 {
-        (-(z + 1)) as u64 + 1
-    } else {
-        z as u64
-    }
+    let m = word::magnitude(z);
+    if z < 0 { m + 1 } else { m }
 }
 
 fn put_number(z: i64, out: &mut [u8], at: usize) -> usize

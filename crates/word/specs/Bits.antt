@@ -1,8 +1,7 @@
--- The bits of a signed number as an unsigned one, in two's complement. No cast of a negative number is defined, so code goes by its sign:
---   if z < 0 { 0xffff_ffff_ffff_ffff - ((-(z + 1)) as u64) } else { z as u64 }
+-- The magnitude and the bits of a signed number, in two's complement, by its sign: of a negative one the bits are 2^64 - 1 less its magnitude.
 use mathlib.Core.Path.{_≡_, refl, _∙_, ap}
 use mathlib.Core.Bool.{true, false}
-use Prim.Native.Nat.{ℕ, zero, suc, _-_, _<_, _^_}
+use Prim.Native.Nat.{ℕ, zero, suc, _+_, _-_, _<_, _^_}
 use native.Mathlib.Omega.{arith}
 use native.Mathlib.Nat.{not-suc-le-zero}
 use lib.Dec.{T, ltb→lt}
@@ -13,12 +12,13 @@ use mir.Val.{Fits, SFits, ofZ}
 use Rattle.word.specs.Fits.{zero-sub}
 use Rattle.word.specs.Compare.{holds, fails}
 
--- of a negative z: −(z + 1) is its magnitude, and the bits are 2^64 − 1 less that
+-- of a negative z: −(z + 1) is its magnitude
 pub record Negative (z : ℤ) : Type 0 where
   pub next : SFits w64 (z +ℤ pos 1)
   pub flip : pos 0 -ℤ (z +ℤ pos 1) ≡ pos (mag z)
   pub small : mag z < 2 ^ 63
   pub bits : 18446744073709551615 - mag z ≡ ofZ w64 z
+  pub size : mag z + 1 ≡ natAbs z
 
 next-fits : (n : ℕ) → n < 2 ^ 63 → SFits w64 (sucℤ (negsuc n))
 next-fits zero h = record { sfits = omega arith }
@@ -35,17 +35,19 @@ negative {z = negsuc n} f e = record {
   flip = zero-sub (negsuc n +ℤ pos 1) ∙ (ap negℤ (+ℤ-one (negsuc n)) ∙ flip-next n);
   small = f .sfits;
   bits = omega (arith, f .sfits);
+  size = omega arith;
 }
 
--- of a z that is not negative: the number itself, and the cast is defined
+-- of a z that is not negative: the number itself, its magnitude, and the cast is defined
 pub record Nonnegative (z : ℤ) : Type 0 where
   pub sign : T (nonNeg z)
   pub fits : Fits w64 (natAbs z)
   pub bits : natAbs z ≡ ofZ w64 z
   pub whole : z ≡ pos (natAbs z)
+  pub same : natAbs z ≡ mag z
 
 pub nonnegative : {z : ℤ} → SFits w64 z → ltZ z (pos 0) ≡ false → Nonnegative z
-nonnegative {z = pos n} f e = record { sign = tt; fits = record { fits = omega (arith, f .sfits) }; bits = refl; whole = refl }
+nonnegative {z = pos n} f e = record { sign = tt; fits = record { fits = omega (arith, f .sfits) }; bits = refl; whole = refl; same = refl }
 nonnegative {z = negsuc n} f e = absurd (fails e)
 
 -- −n − 1, the way to the least number

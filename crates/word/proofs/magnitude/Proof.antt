@@ -1,0 +1,38 @@
+-- `word::magnitude` meets its contract.
+use native.Mathlib.Omega.{arith}
+use Rattle.word.specs.Fits.{back, sfits-pos}
+use Rattle.word.specs.Bits.{Negative, negative, Nonnegative, nonnegative}
+use Rattle.word.proofs.magnitude.Statement.{statement}
+use Rattle.word.proofs.magnitude.Tie as tie
+
+abbrev below : (c : tie.Then1) → Negative (c .before .args .z)
+below c = negative (c .before .fits .z) (simp (back, c .before .fits .z) at (c .if1 .taken))
+
+abbrev above : (c : tie.Else1) → Nonnegative (c .before .args .z)
+above c = nonnegative (c .before .fits .z) (simp (back, c .before .fits .z) at (c .if1 .left))
+
+-- ---- the contract
+returns : tie.Need-returns
+returns c = let n = below c in simp (back, c .before .fits .z, n .next) (rw (n .flip, back, sfits-pos (n .small)))
+
+returns-2 : tie.Need-returns-2
+returns-2 c = simp (back, c .before .fits .z) (above c .same)
+
+-- ---- what the operations ask
+add-result : tie.Need-add-result
+add-result c = simp (back, c .before .fits .z) (below c .next)
+
+sub-result : tie.Need-sub-result
+sub-result c = simp (back, c .before .fits .z, below c .next) (rw (below c .flip) (sfits-pos (below c .small)))
+
+cast-result : tie.Need-cast-result
+cast-result c =
+    let n = below c in
+    simp (back, c .before .fits .z, n .next) (rw (n .flip, back, sfits-pos (n .small)) (tt, omega (arith, n .small)))
+
+cast-result-2 : tie.Need-cast-result-2
+cast-result-2 c = simp (back, c .before .fits .z) (above c .sign, above c .fits)
+
+pub magnitude-spec : {M : Type 1} → statement M
+magnitude-spec =
+    tie.close (tie.spec add-result sub-result cast-result cast-result-2 returns returns-2)
