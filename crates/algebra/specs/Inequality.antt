@@ -1,4 +1,4 @@
--- Inequalities that are used again and again: with negation, with products, and with a positive factor left out.
+-- Inequalities that are used again and again: with negation, with products, with a positive factor left out, and of positive numbers.
 use mathlib.Core.List.{[], _∷_}
 use mathlib.Core.Logic.{⊎-elim}
 use lib.IntN.{ℤ, pos, negℤ, _+ℤ_, _*ℤ_}
@@ -32,3 +32,10 @@ pub below-next : {a b : ℤ} (c : ℤ) → pos 1 ⩽ c → c *ℤ a +ℤ pos 1 �
 below-next {a} {b} c h k = ⊎-elim (λ p. p)
     (λ p. absurd (lin-false (c ∷ a ∷ b ∷ []) (k & nonneg-mul (sub-nonneg h) (sub-nonneg p) & p & none) (search reify depth 20) tt))
     (le-or-gt a b)
+
+-- ---- positive numbers
+pub nonneg : {a : ℤ} → pos 1 ⩽ a → pos 0 ⩽ a
+nonneg {a} h = lin (a ∷ []) (h & none) (search reify depth 20) tt
+
+pub one-mul : {a b : ℤ} → pos 1 ⩽ a → pos 1 ⩽ b → pos 1 ⩽ a *ℤ b
+one-mul {a} {b} h g = lin (a ∷ b ∷ []) (nonneg-mul (sub-nonneg h) (sub-nonneg g) & h & g & none) (search reify depth 20) tt

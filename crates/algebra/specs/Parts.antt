@@ -6,12 +6,12 @@ use Prim.Native.Nat.{ℕ, _≤_, _<_}
 use lib.IntN.{ℤ, pos, negsuc, _+ℤ_, _-ℤ_, _*ℤ_, negℤ, natAbs}
 use lib.Signed.{shrZ}
 use Rattle.algebra.specs.Integer.{ℤR}
-use Rattle.algebra.specs.Gauss.{𝔾, gi, ιᵍ, negᵍ, _+ᵍ_, _-ᵍ_, _*ᵍ_}
+use Rattle.algebra.specs.Gauss.{𝔾, gi, ιᵍ, negᵍ, _+ᵍ_, _-ᵍ_, _*ᵍ_, N, N-mul, N-scale}
 use Rattle.algebra.specs.Reify.{ring!, reify}
 use Rattle.algebra.specs.Order.{_⩽_, _⋖_, ⩽-refl, ⩽-trans, nonneg-add, nonneg-mul, nonneg-pos, nonneg-sq, sub-nonneg, pos-mono}
 use Rattle.algebra.specs.Linear.{lin, lin<, _&_, _&<_, none}
 use Rattle.algebra.specs.Inequality.{sq-le, le-cancel, neg-mono}
-use Rattle.algebra.specs.Within.{Within}
+use Rattle.algebra.specs.Within.{Within, N-nonneg}
 use Rattle.algebra.specs.Floor.{floor-lo, floor-hi}
 
 -- ---- |x|
@@ -228,4 +228,21 @@ within-sizes z = record {
   size = lin (z .re ∷ z .im ∷ abs (z .re) ∷ abs (z .im) ∷ [])
       (nonneg-mul (sub-nonneg (le-abs (z .re))) (sub-nonneg (neg-abs-le (z .re))) & nonneg-mul (sub-nonneg (le-abs (z .im))) (sub-nonneg (neg-abs-le (z .im)))
       & nonneg-mul (abs-nonneg (z .re)) (abs-nonneg (z .im)) & none) (search reify depth 20) tt;
+}
+
+-- ---- to divide by A + f, |f| ≤ r ≤ A
+far-parts : (A r fx fy : ℤ) → r ⩽ A → negℤ r ⩽ fx → (A -ℤ r) *ℤ (A -ℤ r) ⩽ (A +ℤ fx) *ℤ (A +ℤ fx) +ℤ fy *ℤ fy
+far-parts A r fx fy h l = lin (A ∷ r ∷ fx ∷ fy ∷ []) (nonneg-mul (sub-nonneg l) (sub-nonneg l) & nonneg-mul (sub-nonneg h) (sub-nonneg l) & nonneg-sq fy & none)
+    (search reify depth 20) tt
+
+far : (A r : ℤ) (f : 𝔾) → r ⩽ A → Within f r → (A -ℤ r) *ℤ (A -ℤ r) ⩽ N (ιᵍ A +ᵍ f)
+unfolding ιᵍ _+ᵍ_
+far A r f h w = lin (A ∷ r ∷ f .re ∷ f .im ∷ []) (far-parts A r (f .re) (f .im) h (within-parts w .re .lo) & none) (search reify depth 20) tt
+
+pub within-far : (A r : ℤ) (f y : 𝔾) (ρ : ℤ) → r ⩽ A → Within f r → Within (y *ᵍ (ιᵍ A +ᵍ f)) ρ → Within (ιᵍ (A -ℤ r) *ᵍ y) ρ
+within-far A r f y ρ h w g = record {
+  sign = g .sign;
+  size = subst (λ t. t ⩽ ρ *ℤ ρ) (sym (N-scale (A -ℤ r) y))
+      (⩽-trans (lin (A ∷ r ∷ N y ∷ N (ιᵍ A +ᵍ f) ∷ []) (nonneg-mul (N-nonneg y) (sub-nonneg (far A r f h w)) & none) (search reify depth 20) tt)
+      (subst (λ t. t ⩽ ρ *ℤ ρ) (N-mul y (ιᵍ A +ᵍ f)) (g .size)));
 }

@@ -1,0 +1,20 @@
+-- `iteration::cut` meets its contract.
+use Rattle.word.specs.Fits.{back}
+use Rattle.iteration.proofs.cut.Statement.{statement}
+use Rattle.iteration.proofs.cut.Tie as tie
+
+returns : tie.Need-returns
+returns c = let f = c .before .fits in rw (simp (back, f .x, f .lo) at (c .if1 .taken))
+
+returns-2 : tie.Need-returns-2
+returns-2 c =
+    let f = c .before .before .fits in
+    simp (simp (back, f .x, f .lo) at (c .before .if1 .left), simp (back, f .x, f .hi) at (c .if2 .taken))
+
+returns-3 : tie.Need-returns-3
+returns-3 c =
+    let f = c .before .before .fits in
+    simp (simp (back, f .x, f .lo) at (c .before .if1 .left), simp (back, f .x, f .hi) at (c .if2 .left))
+
+pub cut-spec : {M : Type 1} → statement M
+cut-spec = tie.close (tie.spec returns returns-2 returns-3)

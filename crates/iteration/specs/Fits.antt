@@ -1,0 +1,169 @@
+-- For the code: what its parts ask and make, that nothing they make overflows, and one turn of its loop. Over a width F up to 48.
+use mathlib.Core.Path.{_≡_, sym, _∙_, ap, ap₂, subst}
+use mathlib.Core.List.{List, [], _∷_}
+use Prim.Native.Nat.{ℕ, suc, _+_, _-_, _^_, _≤_, _<_}
+use native.Mathlib.Omega.{arith}
+use lib.IntN.{ℤ, pos, negsuc, negℤ, _-ℤ_, _*ℤ_}
+use lib.Signed.{shrZ}
+use mir.Syntax.{w64}
+use mir.Val.{SFits, toZ, ofZ}
+use Rattle.algebra.specs.Integer.{ℤR}
+use Rattle.algebra.specs.Gauss.{𝔾, negᵍ, _+ᵍ_, _-ᵍ_}
+use Rattle.algebra.specs.Reify.{ring!, reify}
+use Rattle.algebra.specs.Order.{_⩽_}
+use Rattle.algebra.specs.Linear.{lin, _&_, none}
+use Rattle.algebra.specs.Power.{two, two≥1, two-mono}
+use Rattle.algebra.specs.Parts.{Size, Parts, size-add, size-neg, size-mul}
+use Rattle.word.specs.Fits.{zero-sub, sfits-size, sfits-neg}
+use Rattle.word.specs.Shift.{shift-constant-word}
+use Rattle.point.specs.declared.Digit.{Digit}
+use Rattle.point.specs.Digit.{IsDigit}
+use Rattle.point.specs.Point.{gauss, gaussᵈ, digit}
+use Rattle.point.specs.Step.{step}
+use Rattle.entries.specs.declared.Entry.{Entry}
+use Rattle.entries.specs.Listed.{byDigit}
+use Rattle.entries.specs.Promise.{StepTable, look}
+use Rattle.entries.specs.Table.{stepTable}
+use Rattle.entries.specs.Rows.{number, none as no-entry, stepRow, row-entry}
+use Rattle.iteration.specs.declared.State.{State}
+use Rattle.iteration.specs.declared.Mode.{Mode}
+use Rattle.iteration.specs.Select.{low-x, high-x, low-y, high-y, half}
+use Rattle.iteration.specs.State.{state, select, select-digit, next, moved, run}
+
+-- ---- what the parts ask and make
+-- both parts of both numbers at most 2^61 in size, where no step overflows (01, Points and units)
+pub record Small (x : State) : Type 0 where
+  pub point : Parts (gauss (x .point)) (two 61)
+  pub sum : Parts (gauss (x .sum)) (two 61)
+
+-- the sum with and without the entry
+pub record LessPre (e z : 𝔾) : Type 0 where
+  pub sum : Parts e (two 61)
+  pub left : Parts (e -ᵍ z) (two 61)
+
+pub record StepPre (s : State) (d : Digit) (row : List Entry) (n : ℕ) : Type 0 where
+  pub small : Small s
+  pub digit : IsDigit (gaussᵈ d)
+  pub count : n < 64
+  pub left : Parts (gauss (s .sum) -ᵍ number (byDigit row no-entry (d .dy))) (two 61)
+
+abbrev pub stepOf : State → Digit → List Entry → ℕ → State
+stepOf s d row n = state (step n (gaussᵈ d) (gauss (s .point))) (gauss (s .sum) -ᵍ number (byDigit row no-entry (d .dy)))
+
+-- every state on the way is small
+pub record Fits (F : ℕ) (t : StepTable) (mode : Mode) (from n : ℕ) (x : State) : Type 0 where
+  pub most : n + 8 ≤ F
+  pub small : (j : ℕ) → j ≤ n - from → Small (run F t mode from j x)
+
+-- ---- the thresholds of step n are those of one, shifted
+module _ (F n : ℕ) (narrow : F ≤ 48) (h : n + 8 ≤ F) where
+  threshold : (c : ℤ) (m : ℕ) → n ≤ m → m ≤ F → Size c (pos 13) → toZ w64 (ofZ w64 (shrZ (c *ℤ two m) (2 ^ n))) ≡ c *ℤ two (m - n)
+  threshold c m l g s = shift-constant-word c m n l (sfits-size (size-mul s (record {
+    lo = lin (two m ∷ two 48 ∷ []) (two-mono m 48 (omega arith) & two≥1 m & none) (search reify depth 20) tt;
+    hi = two-mono m 48 (omega arith);
+  })) tt)
+
+  pub low-x-word : toZ w64 (ofZ w64 (shrZ (negsuc 0 *ℤ two (F - 1)) (2 ^ n))) ≡ low-x F n
+  low-x-word = threshold (negsuc 0) (F - 1) (omega arith) (omega arith) (record { lo = record { le = tt }; hi = record { le = tt } })
+      ∙ ring! ℤR (two (F - 1 - n) ∷ []) (search reify depth 20) tt
+
+  pub high-x-word : toZ w64 (ofZ w64 (shrZ (pos 3 *ℤ two (F - 3)) (2 ^ n))) ≡ high-x F n
+  high-x-word = threshold (pos 3) (F - 3) (omega arith) (omega arith) (record { lo = record { le = tt }; hi = record { le = tt } })
+
+  pub low-y-word : toZ w64 (ofZ w64 (shrZ (negsuc 2 *ℤ two (F - 2)) (2 ^ n))) ≡ low-y F n
+  low-y-word = threshold (negsuc 2) (F - 2) (omega arith) (omega arith) (record { lo = record { le = tt }; hi = record { le = tt } })
+      ∙ ring! ℤR (two (F - 2 - n) ∷ []) (search reify depth 20) tt
+
+  pub high-y-word : toZ w64 (ofZ w64 (shrZ (pos 13 *ℤ two (F - 4)) (2 ^ n))) ≡ high-y F n
+  high-y-word = threshold (pos 13) (F - 4) (omega arith) (omega arith) (record { lo = record { le = tt }; hi = record { le = tt } })
+
+  pub half-word : toZ w64 (ofZ w64 (shrZ (pos 1 *ℤ two (F - 1)) (2 ^ n))) ≡ half F n
+  half-word = threshold (pos 1) (F - 1) (omega arith) (omega arith) (record { lo = record { le = tt }; hi = record { le = tt } })
+      ∙ ring! ℤR (two (F - 1 - n) ∷ []) (search reify depth 20) tt ∙ ap two same
+    where
+      same : F - 1 - n ≡ F - suc n
+      same = omega arith
+
+pub minus-fits : (t : ℤ) → pos 1 ⩽ t → SFits w64 t → SFits w64 (pos 0 -ℤ t)
+minus-fits (pos n) h f = subst (SFits w64) (sym (zero-sub (pos n))) (sfits-neg n (omega (arith, f .sfits)))
+minus-fits (negsuc n) h f = absurd (h .le)
+
+-- ---- a point less one
+pub record ResidualFits (F : ℕ) (z : 𝔾) : Type 0 where
+  pub x : SFits w64 (z .re)
+  pub y : SFits w64 (z .im)
+  pub less-x : SFits w64 (z .re -ℤ two F)
+  pub less-y : SFits w64 (z .im -ℤ pos 0)
+
+pub residual-fits : (F : ℕ) {z : 𝔾} → F ≤ 48 → Parts z (two 61) → ResidualFits F z
+residual-fits F {z} narrow h = record {
+  x = sfits-size (h .re) tt;
+  y = sfits-size (h .im) tt;
+  less-x = sfits-size (size-add (h .re) (size-neg one)) tt;
+  less-y = sfits-size (size-add (h .im) (size-neg {x = pos 0} {b = pos 0} (record { lo = record { le = tt }; hi = record { le = tt } }))) tt;
+}
+  where
+    one : Size (two F) (two 48)
+    one = record { lo = lin (two F ∷ two 48 ∷ []) (two-mono F 48 narrow & two≥1 F & none) (search reify depth 20) tt; hi = two-mono F 48 narrow }
+
+-- ---- a sum less an entry
+pub record LessFits (e z : 𝔾) : Type 0 where
+  pub x : SFits w64 (e .re)
+  pub y : SFits w64 (e .im)
+  pub re : SFits w64 (z .re)
+  pub im : SFits w64 (z .im)
+  pub new-x : SFits w64 (e .re -ℤ z .re)
+  pub new-y : SFits w64 (e .im -ℤ z .im)
+
+pub less-fits : {e z : 𝔾} → LessPre e z → LessFits e z
+unfolding _+ᵍ_ negᵍ
+less-fits {e} {z} h = record {
+  x = sfits-size (h .sum .re) tt;
+  y = sfits-size (h .sum .im) tt;
+  re = sfits-size (taken (h .sum .re) (h .left .re)) tt;
+  im = sfits-size (taken (h .sum .im) (h .left .im)) tt;
+  new-x = sfits-size (h .left .re) tt;
+  new-y = sfits-size (h .left .im) tt;
+}
+  where
+    taken : {x y : ℤ} → Size x (two 61) → Size (x -ℤ y) (two 61) → Size y (two 61 *ℤ pos 2)
+    taken {x} {y} a b = record {
+      lo = lin (x ∷ y ∷ []) (a .lo & b .hi & none) (search reify depth 20) tt;
+      hi = lin (x ∷ y ∷ []) (a .hi & b .lo & none) (search reify depth 20) tt;
+    }
+
+-- ---- one turn of the loop
+module _ {F : ℕ} {t : StepTable} {mode : Mode} {k n : ℕ} {x : State} (f : Fits F t mode k n x) where
+  pub here : Small x
+  unfolding run
+  here = f .small 0 (omega arith)
+
+  module _ (h : k < n) where
+    left-is : n - k ≡ suc (n - suc k)
+    left-is = omega arith
+
+    pub onward : Fits F t mode (suc k) n (moved F t mode (suc k) x)
+    unfolding run
+    onward = record { most = f .most; small = λ j l. f .small (suc j) (omega (arith, left-is)) }
+
+    pub run-more : run F t mode k (n - k) x ≡ run F t mode (suc k) (n - suc k) (moved F t mode (suc k) x)
+    unfolding run
+    run-more = ap (λ m. run F t mode k m x) left-is
+
+-- ---- a step of the code, by the digit of its mode and the row of that digit
+module _ (mode : Mode) (k : ℕ) (s : State) {d : Digit} {row : List Entry} (chosen : d ≡ digit (select 48 mode (suc k) s)) (found : row ≡ stepRow (suc k) (d .dx)) where
+  entry-is : number (byDigit row no-entry (d .dy)) ≡ look stepTable (suc k) (select 48 mode (suc k) s)
+  entry-is = ap (λ r. number (byDigit r no-entry (d .dy))) found ∙ ap number (row-entry (suc k) (d .dx) (d .dy)) ∙ ap (λ x. look stepTable (suc k) (gaussᵈ x)) chosen
+
+  pub step-is : stepOf s d row (suc k) ≡ moved 48 stepTable mode (suc k) s
+  unfolding next
+  step-is = ap₂ (λ x z. state (step (suc k) (gaussᵈ x) (gauss (s .point))) (gauss (s .sum) -ᵍ z)) chosen entry-is
+
+  pub step-ok : {n : ℕ} → Fits 48 stepTable mode k n s → k < n → StepPre s d row (suc k)
+  unfolding next
+  step-ok f h = record {
+    small = here f;
+    digit = subst (λ x. IsDigit (gaussᵈ x)) (sym chosen) (select-digit 48 mode (suc k) s);
+    count = omega (arith, f .most);
+    left = subst (λ z. Parts (gauss (s .sum) -ᵍ z) (two 61)) (sym entry-is) (here (onward f h) .sum);
+  }
