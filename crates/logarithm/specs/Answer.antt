@@ -1,11 +1,12 @@
--- LOG as 01 states it, for every input: the limits, the error bound, the answer, its six numbers, and what it is close to.
+-- LOG as 01 states it, for every input: the reduction and the steps, the limits, the error bound, the answer, its six numbers, and what it is
+-- close to.
 use mathlib.Core.Bool.{Bool, true, false, not}
 use mathlib.Core.List.{List, [], _∷_}
-use Prim.Native.Nat.{ℕ, _^_, _≤_}
+use Prim.Native.Nat.{ℕ, _-_, _^_, _≤_}
 use lib.IntN.{ℤ, pos, natAbs, _*ℤ_}
-use Rattle.algebra.specs.Gauss.{𝔾, gi, ιᵍ, _-ᵍ_, _*ᵍ_}
+use Rattle.algebra.specs.Gauss.{𝔾, gi, ιᵍ, negᵍ, _-ᵍ_, _*ᵍ_}
 use Rattle.algebra.specs.Order.{_⩽_}
-use Rattle.algebra.specs.Power.{two}
+use Rattle.algebra.specs.Power.{two, twoᵍ}
 use Rattle.algebra.specs.Floor.{ceiling}
 use Rattle.algebra.specs.Parts.{abs}
 use Rattle.algebra.specs.Larger.{larger}
@@ -17,14 +18,39 @@ use Rattle.point.specs.Point.{gauss, point}
 use Rattle.point.specs.Limits.{inSteps, inBox, inParts}
 use Rattle.entries.specs.Promise.{StepTable, ReciprocalTable}
 use Rattle.entries.specs.Table.{stepTable, reciprocalTable}
+use Rattle.iteration.specs.declared.State.{State}
+use Rattle.iteration.specs.declared.Mode.the-variants.{Log as LogMode}
+use Rattle.iteration.specs.State.{state, run}
 use Rattle.logarithm.specs.declared.Figures.{Figures}
 use Rattle.logarithm.specs.declared.Answer.{Answer}
 use Rattle.logarithm.specs.declared.Answer.the-variants.{Answered, Refused}
-use Rattle.logarithm.specs.Quadrant.{i^}
-use Rattle.logarithm.specs.Scale.{power}
-use Rattle.logarithm.specs.Run.{Log, log}
+use Rattle.logarithm.specs.Quadrant.{quadrant, turned, i^}
+use Rattle.logarithm.specs.Scale.{binary-exponent, scaled, power}
+use Rattle.logarithm.specs.Cell.{cellX, cellY, reduced}
 
--- ---- the limits (one is 2^F units; 01 has F = 48): "N from 3 to 40" is inSteps F 3, and "each part at most 2^58 in size" is inParts F
+-- ---- LOG over a width F (one is 2^F units; 01 has F = 48) and any tables
+-- from the turned point w: the scaled point brought near one, and "minus the seat's logarithm"
+abbrev pub begun : ℕ → ReciprocalTable → 𝔾 → State
+begun F logs w = let p = scaled F w in state (reduced F p) (negᵍ (logs (cellX F p) (cellY F p)))
+
+-- after the "Steps n = 3 to N" of the iteration's mode Log (crate iteration)
+abbrev pub after : ℕ → StepTable → ReciprocalTable → ℕ → 𝔾 → State
+after F steps logs N w = run F steps LogMode 2 (N - 2) (begun F logs w)
+
+-- "minus the seat's logarithm, less the entries of the steps taken, with k and q"
+pub record Log : Type 0 where
+  pub z : 𝔾
+  pub k : ℤ
+  pub q : ℤ
+
+unfoldable pub log : ℕ → StepTable → ReciprocalTable → ℕ → 𝔾 → Log
+log F steps logs N p = record { z = gauss (after F steps logs N (turned p) .sum); k = binary-exponent F (turned p); q = quadrant p }
+
+-- the point less one after the last step
+unfoldable pub remainder : ℕ → StepTable → ReciprocalTable → ℕ → 𝔾 → 𝔾
+remainder F steps logs N p = gauss (after F steps logs N (turned p) .point) -ᵍ twoᵍ F
+
+-- ---- the limits: "N from 3 to 40" is inSteps F 3, and "each part at most 2^58 in size" is inParts F
 -- (point, Limits)
 -- both parts are zero
 unfoldable pub isZero : 𝔾 → Bool

@@ -8,12 +8,12 @@ use borrow.Author.Tests.{not-true, not-false}
 use Rattle.word.specs.Fits.{back}
 use Rattle.word.specs.Compare.{between}
 use Rattle.point.specs.Point.{gauss}
+use Rattle.point.specs.Limits.{inSteps, inParts, steps-say}
 use Rattle.entries.specs.Table.{stepTable, reciprocalTable}
 use Rattle.logarithm.specs.declared.Answer.the-variants.{Answered}
-use Rattle.logarithm.specs.Code.{figuresOf}
-use Rattle.point.specs.Limits.{inSteps, inParts, steps-say}
 use Rattle.logarithm.specs.Answer.{isZero, logAnswer, Close}
-use Rattle.logarithm.specs.Laws.{Accepted, refused-steps, refused-part, refused-zero, answered, log-answer-close}
+use Rattle.logarithm.specs.Close.{Accepted, refused-steps, refused-part, refused-zero, answered, log-answer-close}
+use Rattle.logarithm.specs.Fits.{figuresOf}
 use Rattle.logarithm.proofs.log.Statement.{statement}
 use Rattle.logarithm.proofs.log.Tie as tie
 
