@@ -27,14 +27,14 @@ use Rattle.iteration.specs.Fits.{Fits}
 use Rattle.exponential.specs.Convergence.{Rectangle, below-parts, converges}
 use Rattle.exponential.specs.Answer.{errorBound}
 
--- ---- the run: a start of parts up to 2^58 stays at 2^60 or less (1089/280 of it, and the rounding), and the exponent below one
+-- ---- the run: a start of parts up to 2^58 grows to 1089/280 of it, and the rounding; the exponent stays below one
 module _ (F : ℕ) (wide : 16 ≤ F) (narrow : F ≤ 48) (t : StepTable) (promise : StepPromise F (F - 8) t) where
-  pub run-fits : (n : ℕ) (e s : 𝔾) → n ≤ F - 8 → Rectangle F e → Parts s (two 58) → Fits F t Exp 0 n (state s e)
+  pub run-fits : (n : ℕ) (e s : 𝔾) → n ≤ F - 8 → Rectangle F e → Parts s (two (F + 10)) → Fits F t Exp 0 n (state s e)
   run-fits n e s h rect given = record {
     most = omega arith;
     small = λ j l. record {
       point = parts-cancel (pos 280) (record { le = tt }) (parts-weaken (exact-size (exact-run F t Exp 0 j j (state s e) (omega arith) exact-start) given)
-          (lin (pos j ∷ []) (few j l &ℕ none) (search reify depth 20) tt));
+          (lin (pos j ∷ two (F + 10) ∷ []) (few j l &ℕ two-mono (F + 10) 58 (omega arith) & none) (search reify depth 20) tt));
       sum = parts-weaken (below-parts (converges F (F - 8) wide (omega arith) t promise (state s e) rect j (omega arith))) (two-mono (F - j) 61 (omega arith));
     };
   }
@@ -50,8 +50,8 @@ pub record BoundFits (n : ℕ) (m : ℤ) : Type 0 where
   pub share : SFits w64 (rounding-share *ℤ pos n)
   pub bound : SFits w64 (rounding-share *ℤ pos n -ℤ shrZ (negsuc 7 *ℤ m) (2 ^ n))
 
-pub bound-fits : (n : ℕ) {s : 𝔾} → n ≤ 40 → Parts s (two 58) → BoundFits n (larger s)
-bound-fits n {s} h g = record {
+pub bound-fits : (F n : ℕ) {s : 𝔾} → F ≤ 48 → n ≤ F - 8 → Parts s (two (F + 10)) → BoundFits n (larger s)
+bound-fits F n {s} narrow h given = record {
   larger = sfits-size {b = two 58} (record { lo = lin (m ∷ []) (sign & none) (search reify depth 20) tt; hi = larger-le g }) tt;
   eight = sfits-size eight tt;
   down = sfits-size (size-shift (2 ^ n) eight) tt;
@@ -62,6 +62,12 @@ bound-fits n {s} h g = record {
     m : ℤ
     m = larger s
 
+    g : Parts s (two 58)
+    g = parts-weaken given (two-mono (F + 10) 58 (omega arith))
+
+    few : n ≤ 40
+    few = omega arith
+
     sign : pos 0 ⩽ m
     sign = size-sign (larger-parts s .re)
 
@@ -69,7 +75,7 @@ bound-fits n {s} h g = record {
     eight = record { lo = lin (m ∷ []) (larger-le g & none) (search reify depth 20) tt; hi = lin (m ∷ []) (sign & none) (search reify depth 20) tt }
 
     share : Size (rounding-share *ℤ pos n) (pos 120)
-    share = record { lo = lin (pos n ∷ []) (nonneg-pos n & none) (search reify depth 20) tt; hi = lin (pos n ∷ []) (h &ℕ none) (search reify depth 20) tt }
+    share = record { lo = lin (pos n ∷ []) (nonneg-pos n & none) (search reify depth 20) tt; hi = lin (pos n ∷ []) (few &ℕ none) (search reify depth 20) tt }
 
 pub bound-is : (n : ℕ) (s : 𝔾) → rounding-share *ℤ pos n -ℤ shrZ (negsuc 7 *ℤ larger s) (2 ^ n) ≡ errorBound n s
 unfolding errorBound ceiling

@@ -1,15 +1,15 @@
--- LOG as 01 states it, for every input: the limits, the error bound, the answer, and what it is close to.
+-- LOG as 01 states it, for every input: the limits, the error bound, the steps, the answer, and what it is close to.
 use mathlib.Core.Bool.{Bool, not}
-use Prim.Native.Nat.{ℕ, _^_, _≤_}
+use Prim.Native.Nat.{ℕ, _-_, _^_, _≤_}
 use lib.IntN.{ℤ, pos, natAbs, _*ℤ_}
-use Rattle.algebra.specs.Gauss.{𝔾, gi, ιᵍ, _-ᵍ_, _*ᵍ_}
+use Rattle.algebra.specs.Gauss.{𝔾, gi, ιᵍ, negᵍ, _-ᵍ_, _*ᵍ_}
 use Rattle.algebra.specs.Order.{_⩽_}
 use Rattle.algebra.specs.Power.{two}
 use Rattle.algebra.specs.Floor.{ceiling}
 use Rattle.algebra.specs.Parts.{abs}
 use Rattle.algebra.specs.Larger.{larger}
 use Rattle.series.specs.Series.{Sᵍ, Dᵍ, Dᶻ}
-use Rattle.point.specs.Point.{gauss, point}
+use Rattle.point.specs.Point.{gauss}
 use Rattle.point.specs.Limits.{inSteps, inBox, inParts}
 use Rattle.answer.specs.declared.Refusal.the-variants.{Steps, Part, Zero}
 use Rattle.answer.specs.declared.Figures.{Figures}
@@ -18,9 +18,12 @@ use Rattle.answer.specs.declared.Answer.the-variants.{Answered, Refused}
 use Rattle.answer.specs.Refusal.{unless}
 use Rattle.entries.specs.Promise.{StepTable, ReciprocalTable}
 use Rattle.entries.specs.Table.{stepTable, reciprocalTable}
-use Rattle.logarithm.specs.Quadrant.{i^}
-use Rattle.logarithm.specs.Scale.{power}
-use Rattle.logarithm.specs.Run.{Log, log}
+use Rattle.iteration.specs.declared.State.{State}
+use Rattle.iteration.specs.declared.Mode.the-variants.{Log}
+use Rattle.iteration.specs.State.{state, run}
+use Rattle.logarithm.specs.Quadrant.{quadrant, turned, i^}
+use Rattle.logarithm.specs.Scale.{binary-exponent, scaled, power}
+use Rattle.logarithm.specs.Cell.{cellX, cellY, reduced}
 
 -- ---- the limits (one is 2^F units; 01 has F = 48): "N from 3 to 40" is inSteps F 3, and "each part at most 2^58 in size" is inParts F
 -- (point, Limits)
@@ -33,35 +36,38 @@ unfoldable pub errorBound : ℕ → 𝔾 → ℤ
 errorBound n p = ceiling (pos 3 *ℤ larger p) (2 ^ n)
 
 -- ---- the answer for every input
-abbrev pub figures : Log → ℤ → Figures
-figures r b = record { value = point (r .z); «binary_exponent» = r .k; quadrant = r .q; «error_bound» = b }
+-- from the turned point w: the scaled point brought near one, and "minus the seat's logarithm"
+abbrev pub begun : ℕ → ReciprocalTable → 𝔾 → State
+begun F logs w = let p = scaled F w in state (reduced F p) (negᵍ (logs (cellX F p) (cellY F p)))
 
--- "first 1, N outside 3 to 40; then 3, a part over 2^58 in size; then 4, the zero point"
-unfoldable pub answerTo : ℕ → StepTable → ReciprocalTable → ℤ → 𝔾 → Answer
-answerTo F steps logs n p =
-    unless (inSteps F 3 n) Steps
-    (unless (inParts F p) Part
-    (unless (not (isZero p)) Zero
-    (Answered (figures (log F steps logs (natAbs n) p) (errorBound (natAbs n) p)))))
+module _ (F : ℕ) (steps : StepTable) (logs : ReciprocalTable) where
+  -- "Steps n = 3 to N": the state of point and answer after them
+  abbrev pub ended : ℕ → 𝔾 → State
+  ended n w = run F steps Log 2 (n - 2) (begun F logs w)
+
+  -- "The answer is minus the seat's logarithm, less the entries of the steps taken, with k and q"
+  abbrev pub figures : ℕ → 𝔾 → Figures
+  figures n p = record { value = ended n (turned p) .sum; «binary_exponent» = binary-exponent F (turned p); quadrant = quadrant p; «error_bound» = errorBound n p }
+
+  -- "first 1, N outside 3 to 40; then 3, a part over 2^58 in size; then 4, the zero point"
+  unfoldable pub answer : ℤ → 𝔾 → Answer
+  answer n p = unless (inSteps F 3 n) Steps (unless (inParts F p) Part (unless (not (isZero p)) Zero (Answered (figures (natAbs n) p))))
 
 -- of log (n, (x, y))
 unfoldable pub logAnswer : ℤ → ℤ → ℤ → Answer
-logAnswer n x y = answerTo 48 stepTable reciprocalTable n (gi x y)
+logAnswer n x y = answer 48 stepTable reciprocalTable n (gi x y)
 
 -- ---- what demand 3 compares, at T terms: the exponential is S T/D T, and both sides are multiplied by the divisors 2^N and D T
 -- "2^(48+k)·i^q times the exact exponential of the answer, less the given point in units"
-abbrev pub miss : (F T : ℕ) (p : 𝔾) (r : Log) → 𝔾
-miss F T p r = ιᵍ (power F (r .k)) *ᵍ i^ (r .q) *ᵍ Sᵍ (2 ^ F) T (r .z) -ᵍ p *ᵍ Dᵍ (2 ^ F) T
+abbrev pub miss : (F T : ℕ) (p : 𝔾) (f : Figures) → 𝔾
+miss F T p f = ιᵍ (power F (f .«binary_exponent»)) *ᵍ i^ (f .quadrant) *ᵍ Sᵍ (2 ^ F) T (gauss (f .value)) -ᵍ p *ᵍ Dᵍ (2 ^ F) T
 
 -- "is at most 3M/2^N in size in each part"
-pub record CloseAt (F N T : ℕ) (p : 𝔾) (r : Log) : Type 0 where
-  pub re : abs (miss F T p r .re) *ℤ two N ⩽ pos 3 *ℤ larger p *ℤ Dᶻ (2 ^ F) T
-  pub im : abs (miss F T p r .im) *ℤ two N ⩽ pos 3 *ℤ larger p *ℤ Dᶻ (2 ^ F) T
+pub record CloseAt (F N T : ℕ) (p : 𝔾) (f : Figures) : Type 0 where
+  pub re : abs (miss F T p f .re) *ℤ two N ⩽ pos 3 *ℤ larger p *ℤ Dᶻ (2 ^ F) T
+  pub im : abs (miss F T p f .im) *ℤ two N ⩽ pos 3 *ℤ larger p *ℤ Dᶻ (2 ^ F) T
 
 -- "For every T from 24 on, and every input that meets no refusal"
-abbrev pub answered-log : Figures → Log
-answered-log f = record { z = gauss (f .value); k = f .«binary_exponent»; q = f .quadrant }
-
 abbrev pub Close : ℤ → ℤ → ℤ → Answer → Type 0
-Close n x y (Answered f) = (T : ℕ) → 24 ≤ T → CloseAt 48 (natAbs n) T (gi x y) (answered-log f)
+Close n x y (Answered f) = (T : ℕ) → 24 ≤ T → CloseAt 48 (natAbs n) T (gi x y) f
 Close n x y (Refused r) = Unit {0}

@@ -1,22 +1,30 @@
--- Convergence (01, LOG): from 7/64 on, "Before each step n from 4 on, and after the last step with n = N + 1, each part of 2^n·u is at most 3/2 in
--- size", u being the point less one.
-use mathlib.Core.Path.{_≡_, sym, _∙_, ap, subst, subst₂}
+-- What LOG's steps keep (01, LOG): each part of u, the point less one, is at most 7/64 before the steps, and "Before each step n from 4 on, and
+-- after the last step with n = N + 1, each part of 2^n·u is at most 3/2 in size". The sum stays short.
+use mathlib.Core.Path.{_≡_, sym, _∙_, ap, subst}
 use mathlib.Core.List.{[], _∷_}
 use Prim.Native.Nat.{ℕ, zero, suc, _+_, _*_, _-_, _^_, _≤_}
 use native.Mathlib.Omega.{arith}
 use lib.IntN.{ℤ, pos, _+ℤ_, _*ℤ_}
-use Rattle.algebra.specs.Integer.{ℤR}
 use Rattle.algebra.specs.Gauss.{𝔾, 𝔾R, ιᵍ, _+ᵍ_, _-ᵍ_, _*ᵍ_, g-ι-mul}
 use Rattle.algebra.specs.Reify.{ring!, reify, reifyᵍ}
 use Rattle.algebra.specs.Order.{_⩽_, ⩽-refl, nonneg-mul, nonneg-pos, sub-nonneg}
 use Rattle.algebra.specs.Linear.{lin, _&_, _&≡_, none}
 use Rattle.algebra.specs.Power.{two, twoᵍ, two≥1, two-suc, two-mono, two-whole, two-halve}
-use Rattle.algebra.specs.Within.{within-ι}
+use Rattle.algebra.specs.Within.{Within, within-ι, within-neg, within-weaken, within-cancel}
 use Rattle.algebra.specs.Parts.{Parts, parts-add, parts-scale, parts-cancel, parts-weaken, parts-digit, within-parts}
 use Rattle.point.specs.Digit.{digit-parts}
+use Rattle.point.specs.Point.{gauss}
 use Rattle.point.specs.Step.{step, step-error}
-use Rattle.logarithm.specs.Select.{half, select, select-digit, select-near}
-use Rattle.logarithm.specs.Run.{index, point-at}
+use Rattle.entries.specs.Promise.{StepTable, ReciprocalTable, StepPromise, ReciprocalPromise, ReciprocalEntry}
+use Rattle.iteration.specs.declared.State.{State}
+use Rattle.iteration.specs.declared.Mode.the-variants.{Log}
+use Rattle.iteration.specs.Select.{half, log-select, log-digit, log-near}
+use Rattle.iteration.specs.State.{select, select-digit, next, moved, run, run-keeps}
+use Rattle.iteration.specs.Drift.{Short, short-next}
+use Rattle.logarithm.specs.Quadrant.{Cone}
+use Rattle.logarithm.specs.Scale.{scaled, Scaled, scaled-ranges}
+use Rattle.logarithm.specs.Cell.{cellX, cellY, column, row, reciprocalOf, in-table, reduced-near}
+use Rattle.logarithm.specs.Answer.{begun}
 
 -- ---- half of 1/2^n in units
 pub one-halves : (F n : ℕ) → suc n ≤ F → two F ≡ pos 2 *ℤ two n *ℤ half F n
@@ -30,7 +38,7 @@ pub half-large : (F n k : ℕ) → n + suc k ≤ F → two k ⩽ half F n
 half-large F n k h = two-mono k (F - suc n) (omega arith)
 
 -- ---- one step: 2^n u' = 2^n (u + d/2^n) + d u and what the step is off
-module _ (F n : ℕ) (fits : suc n ≤ F) (v : 𝔾) (b : ℤ) where
+module _ (F n : ℕ) (fits : suc (suc n) ≤ F) (v : 𝔾) (b : ℤ) where
   X : ℤ
   X = two n
 
@@ -41,108 +49,130 @@ module _ (F n : ℕ) (fits : suc n ≤ F) (v : 𝔾) (b : ℤ) where
   one = twoᵍ F
 
   d : 𝔾
-  d = select F n v
+  d = log-select F n v
 
   v′ : 𝔾
   v′ = step n d v
 
   one-is : one ≡ ιᵍ (pos 2) *ᵍ ιᵍ X *ᵍ ιᵍ t
   unfolding one X t
-  one-is = ap ιᵍ (one-halves F n fits) ∙ g-ι-mul (pos 2 *ℤ X) t ∙ ap (λ z. z *ᵍ ιᵍ t) (g-ι-mul (pos 2) X)
+  one-is = ap ιᵍ (one-halves F n (omega arith)) ∙ g-ι-mul (pos 2 *ℤ X) t ∙ ap (λ z. z *ᵍ ιᵍ t) (g-ι-mul (pos 2) X)
 
   shape : ιᵍ X *ᵍ (v -ᵍ one +ᵍ ιᵍ (pos 2) *ᵍ ιᵍ t *ᵍ d) +ᵍ d *ᵍ (v -ᵍ one) +ᵍ (ιᵍ X *ᵍ v′ -ᵍ (ιᵍ X +ᵍ d) *ᵍ v) ≡ ιᵍ X *ᵍ (v′ -ᵍ one)
   shape = subst (λ o. ιᵍ X *ᵍ (v -ᵍ o +ᵍ ιᵍ (pos 2) *ᵍ ιᵍ t *ᵍ d) +ᵍ d *ᵍ (v -ᵍ o) +ᵍ (ιᵍ X *ᵍ v′ -ᵍ (ιᵍ X +ᵍ d) *ᵍ v) ≡ ιᵍ X *ᵍ (v′ -ᵍ o)) (sym one-is)
       (ring! 𝔾R (ιᵍ X ∷ ιᵍ t ∷ v ∷ v′ ∷ d ∷ []) (search reifyᵍ depth 20) tt)
 
-  -- it is at most 2^n t + 2 b + 2^n where u is at most b, b ≤ 3 t
-  one-step : Parts (v -ᵍ one) b → b ⩽ pos 3 *ℤ t → Parts (ιᵍ X *ᵍ (v′ -ᵍ one)) (X *ℤ t +ℤ (b +ℤ b) +ℤ X)
+  -- from b, at most 3/2 of 1/2^n, u comes to at most 3/4 of it where the step leaves room for 2 b and the rounding
+  one-step : b ⩽ pos 3 *ℤ half F n → b +ℤ b +ℤ two n ⩽ two n *ℤ half F (suc n) → Parts (v -ᵍ twoᵍ F) b →
+      Parts (step n (log-select F n v) v -ᵍ twoᵍ F) (pos 3 *ℤ half F (suc n))
   unfolding X t one d v′
-  one-step h l = subst (λ z. Parts z (X *ℤ t +ℤ (b +ℤ b) +ℤ X)) shape
-      (parts-add (parts-add (parts-scale X (nonneg-pos (2 ^ n)) (select-near F n v (parts-weaken h l))) (parts-digit (digit-parts (select-digit F n v)) h))
-      (step-error n d v))
+  one-step l room h = parts-cancel (two n) (two≥1 n) (parts-weaken (subst (λ z. Parts z (X *ℤ t +ℤ (b +ℤ b) +ℤ X)) shape
+      (parts-add (parts-add (parts-scale X (nonneg-pos (2 ^ n)) (log-near F n v (parts-weaken h l))) (parts-digit (digit-parts (log-digit F n v)) h)) (step-error n d v)))
+      (lin (b ∷ two n ∷ half F n ∷ half F (suc n) ∷ []) (room & ap (λ x. two n *ℤ x) (half-halve F n fits) &≡ none) (search reify depth 20) tt))
 
--- ---- all steps
-module _ (F : ℕ) (v : 𝔾) (start : Parts (ιᵍ (pos 64) *ᵍ (v -ᵍ twoᵍ F)) (pos 7 *ℤ two F)) where
-  u : ℕ → 𝔾
-  u m = point-at F v m -ᵍ twoᵍ F
+-- ---- THE POINT after step n, from 2 on
+pub record Converging (F n : ℕ) (x : State) : Type 0 where
+  pub least : 2 ≤ n
+  pub near : Parts (ιᵍ (pos 64) *ᵍ (gauss (x .point) -ᵍ twoᵍ F)) (pos 7 *ℤ two F)
+  pub left : 3 ≤ n → Parts (gauss (x .point) -ᵍ twoᵍ F) (pos 3 *ℤ half F (suc n))
 
-  -- n = 3: t is 4 s, U is 64 s, the start at most 7 s
-  first : 11 ≤ F → Parts (u 1) (pos 3 *ℤ half F 4)
-  unfolding u point-at one X t d v′
-  first w = parts-cancel (pos 8) (record { le = tt }) (parts-weaken (one-step F 3 (omega arith) v (pos 7 *ℤ s) from small) last)
+module _ (F : ℕ) (t : StepTable) where
+  -- step 3: with s for 1/64, half of 1/8 is 4 s and u at most 7 s
+  first : 11 ≤ F → (x : State) → Converging F 2 x → Parts (gauss (moved F t Log 3 x .point) -ᵍ twoᵍ F) (pos 3 *ℤ half F 4)
+  unfolding next select
+  first w x c = one-step F 3 (omega arith) (gauss (x .point)) (pos 7 *ℤ s)
+      (lin (s ∷ half F 3 ∷ half F 4 ∷ []) (half-halve F 3 (omega arith) &≡ t₄ &≡ nonneg-pos (2 ^ (F - 6)) & none) (search reify depth 20) tt)
+      (lin (s ∷ half F 4 ∷ []) (t₄ &≡ half-large F 5 2 (omega arith) & none) (search reify depth 20) tt)
+      (parts-cancel (pos 64) (record { le = tt }) (parts-weaken (c .near) (lin (two F ∷ s ∷ []) (one-halves F 5 (omega arith) &≡ none) (search reify depth 20) tt)))
     where
       s : ℤ
       s = half F 5
 
-      t₃ : half F 3 ≡ pos 4 *ℤ s
-      t₃ = half-halve F 3 (omega arith) ∙ ap (λ x. pos 2 *ℤ x) (half-halve F 4 (omega arith)) ∙ ring! ℤR (s ∷ []) (search reify depth 20) tt
+      t₄ : half F 4 ≡ pos 2 *ℤ s
+      t₄ = half-halve F 4 (omega arith)
 
-      U-is : pos 7 *ℤ two F ≡ pos 64 *ℤ (pos 7 *ℤ s)
-      U-is = ap (λ x. pos 7 *ℤ x) (one-halves F 5 (omega arith)) ∙ ring! ℤR (s ∷ []) (search reify depth 20) tt
-
-      from : Parts (v -ᵍ twoᵍ F) (pos 7 *ℤ s)
-      from = parts-cancel (pos 64) (record { le = tt }) (subst (λ x. Parts (ιᵍ (pos 64) *ᵍ (v -ᵍ twoᵍ F)) x) U-is start)
-
-      small : pos 7 *ℤ s ⩽ pos 3 *ℤ half F 3
-      small = lin (s ∷ half F 3 ∷ []) (t₃ &≡ nonneg-pos (2 ^ (F - 6)) & none) (search reify depth 20) tt
-
-      last : pos 8 *ℤ half F 3 +ℤ (pos 7 *ℤ s +ℤ pos 7 *ℤ s) +ℤ pos 8 ⩽ pos 8 *ℤ (pos 3 *ℤ half F 4)
-      last = lin (s ∷ half F 3 ∷ half F 4 ∷ []) (t₃ &≡ half-halve F 4 (omega arith) &≡ half-large F 5 2 (omega arith) & none) (search reify depth 20) tt
-
-  -- n from 4 on
-  later : (m : ℕ) → m + 12 ≤ F → Parts (u (suc m)) (pos 3 *ℤ half F (index (suc m))) → Parts (u (suc (suc m))) (pos 3 *ℤ half F (index (suc (suc m))))
-  unfolding u point-at one X t d v′
-  later m w h = parts-cancel (two n) (two≥1 n) (parts-weaken
-      (one-step F n (omega arith) (point-at F v (suc m)) (pos 3 *ℤ half F n) h (⩽-refl (pos 3 *ℤ half F n))) last)
+  -- step n from 4 on
+  later : (n : ℕ) → 4 ≤ n → n + 8 ≤ F → (x : State) → Parts (gauss (x .point) -ᵍ twoᵍ F) (pos 3 *ℤ half F n) →
+      Parts (gauss (moved F t Log n x .point) -ᵍ twoᵍ F) (pos 3 *ℤ half F (suc n))
+  unfolding next select
+  later n lo hi x h = one-step F n (omega arith) (gauss (x .point)) (pos 3 *ℤ half F n) (⩽-refl (pos 3 *ℤ half F n))
+      (lin (two n ∷ half F n ∷ half F (suc n) ∷ [])
+      (half-halve F n (omega arith) &≡ nonneg-mul (sub-nonneg (two-mono 4 n lo)) (sub-nonneg large) & large & two-mono 4 n lo & none)
+      (search reify depth 20) tt) h
     where
-      n : ℕ
-      n = index (suc m)
+      large : two 2 ⩽ half F (suc n)
+      large = half-large F (suc n) 2 (omega arith)
 
-      s : ℤ
-      s = half F (suc n)
+  either : (n : ℕ) (x : State) → suc n + 8 ≤ F → Converging F n x → Parts (gauss (moved F t Log (suc n) x .point) -ᵍ twoᵍ F) (pos 3 *ℤ half F (suc (suc n)))
+  either zero x h c = absurd (omega (arith, c .least))
+  either (suc zero) x h c = absurd (omega (arith, c .least))
+  either (suc (suc zero)) x h c = first (omega arith) x c
+  either (suc (suc (suc n))) x h c = later (suc (suc (suc (suc n)))) (omega arith) (omega arith) x (c .left (omega arith))
 
-      X≥16 : pos 16 ⩽ two n
-      X≥16 = two-mono 4 n (omega arith)
+  pub converging-next : (n : ℕ) (x : State) → suc n + 8 ≤ F → Converging F n x → Converging F (suc n) (moved F t Log (suc n) x)
+  converging-next n x h c = record {
+    least = omega (arith, c .least);
+    near = parts-weaken (parts-scale (pos 64) (nonneg-pos 64) (either n x h c)) (lin (two F ∷ two (suc (suc n)) ∷ half F (suc (suc n)) ∷ [])
+        (one-halves F (suc (suc n)) (omega arith) &≡ nonneg-mul (nonneg-pos (2 ^ (F - suc (suc (suc n))))) (sub-nonneg (two-mono 4 (suc (suc n)) (omega (arith, c .least))))
+        & nonneg-pos (2 ^ (F - suc (suc (suc n)))) & none) (search reify depth 20) tt);
+    left = λ _. either n x h c;
+  }
 
-      last : two n *ℤ half F n +ℤ (pos 3 *ℤ half F n +ℤ pos 3 *ℤ half F n) +ℤ two n ⩽ two n *ℤ (pos 3 *ℤ s)
-      last = lin (two n ∷ half F n ∷ s ∷ [])
-          (ap (λ x. two n *ℤ x) (half-halve F n (omega arith)) &≡ half-halve F n (omega arith) &≡ nonneg-mul (sub-nonneg X≥16)
-          (sub-nonneg (half-large F (suc n) 2 (omega arith))) & half-large F (suc n) 2 (omega arith) & X≥16 & none) (search reify depth 20) tt
+  -- after the steps 3 to n
+  module _ (x : State) (start : Converging F 2 x) where
+    pub converging-run : (n k : ℕ) → 2 + k ≡ n → n + 8 ≤ F → Converging F n (run F t Log 2 k x)
+    converging-run n k e h = run-keeps F t Log (Converging F) (F - 8) (λ n x h. converging-next n x (omega arith)) 2 k n x e (omega arith) start
 
-  -- each part of u is at most 3/2 of 1/2^n, n = m + 4, after the step m + 3 ≤ F − 8
-  pub converges : (m : ℕ) → m + 11 ≤ F → Parts (point-at F v (suc m) -ᵍ twoᵍ F) (pos 3 *ℤ half F (index (suc m)))
-  unfolding u
-  converges zero w = first w
-  converges (suc m) w = later m (omega arith) (converges m (omega arith))
+    pub converges : (n : ℕ) → 3 ≤ n → n + 8 ≤ F → Parts (gauss (run F t Log 2 (n - 2) x .point) -ᵍ twoᵍ F) (pos 3 *ℤ half F (suc n))
+    converges n lo hi = converging-run n (n - 2) (omega arith) hi .left lo
 
-  -- in 01's words: n = m + 4, the parts of 2^n·u, twice
-  pub converges-times : (m : ℕ) → m + 11 ≤ F → Parts (ιᵍ (pos 2 *ℤ two (index (suc m))) *ᵍ (point-at F v (suc m) -ᵍ twoᵍ F)) (pos 3 *ℤ two F)
-  converges-times m w = subst (λ b. Parts (ιᵍ (pos 2 *ℤ two n) *ᵍ (point-at F v (suc m) -ᵍ twoᵍ F)) b) radius
-      (parts-scale (pos 2 *ℤ two n) (nonneg-pos (2 * 2 ^ n)) (converges m w))
-    where
-      n : ℕ
-      n = index (suc m)
+    -- in 01's words: the parts of 2^(n + 1)·u, twice
+    pub converges-times : (n : ℕ) → 3 ≤ n → n + 8 ≤ F → Parts (ιᵍ (pos 2 *ℤ two (suc n)) *ᵍ (gauss (run F t Log 2 (n - 2) x .point) -ᵍ twoᵍ F)) (pos 3 *ℤ two F)
+    converges-times n lo hi = parts-weaken (parts-scale (pos 2 *ℤ two (suc n)) (nonneg-pos (2 * 2 ^ suc n)) (converges n lo hi))
+        (lin (two F ∷ two (suc n) ∷ half F (suc n) ∷ []) (one-halves F (suc n) (omega arith) &≡ none) (search reify depth 20) tt)
 
-      radius : pos 2 *ℤ two n *ℤ (pos 3 *ℤ half F n) ≡ pos 3 *ℤ two F
-      radius = ring! ℤR (two n ∷ half F n ∷ []) (search reify depth 20) tt ∙ ap (λ x. pos 3 *ℤ x) (sym (one-halves F n (omega arith)))
+-- the point itself is at most two in each part
+pub point-size : (F n : ℕ) (x : State) → Converging F n x → Parts (gauss (x .point)) (pos 2 *ℤ two F)
+point-size F n x c = parts-cancel (pos 64) (record { le = tt }) (subst (λ z. Parts z (pos 64 *ℤ (pos 2 *ℤ two F)))
+    (ring! 𝔾R (gauss (x .point) ∷ twoᵍ F ∷ []) (search reifyᵍ depth 20) tt)
+    (parts-weaken (parts-add (c .near) (parts-scale (pos 64) (nonneg-pos 64) (within-parts (within-ι (two F) (nonneg-pos (2 ^ F))))))
+    (lin (two F ∷ []) (nonneg-pos (2 ^ F) & none) (search reify depth 20) tt)))
 
-  -- the point itself stays within two
-  pub point-size : (m : ℕ) → m + 10 ≤ F → Parts (point-at F v m) (pos 2 *ℤ two F)
-  unfolding point-at
-  point-size m w = subst₂ Parts (ring! 𝔾R (point-at F v m ∷ twoᵍ F ∷ []) (search reifyᵍ depth 20) tt) (ring! ℤR (two F ∷ []) (search reify depth 20) tt)
-      (parts-add (from-one m w) one-parts)
-    where
-      one-parts : Parts (twoᵍ F) (two F)
-      one-parts = within-parts (within-ι (two F) (nonneg-pos (2 ^ F)))
+-- ---- THE SUM: at most 9/8 long before the steps, so after each it and the entries to come are at most 27/16
+abbrev pub most : ℕ → ℤ
+most F = pos 27 *ℤ two (F - 4)
 
-      from-one : (m : ℕ) → m + 10 ≤ F → Parts (point-at F v m -ᵍ twoᵍ F) (two F)
-      from-one zero w = parts-cancel (pos 64) (record { le = tt }) (parts-weaken start (lin (two F ∷ []) (nonneg-pos (2 ^ F) & none) (search reify depth 20) tt))
-      from-one (suc m) w = parts-weaken (converges m (omega arith))
-          (lin (two F ∷ two n ∷ half F n ∷ []) (one-halves F n (omega arith) &≡ nonneg-mul (nonneg-pos (2 ^ (F - suc n))) (sub-nonneg X≥2) & nonneg-pos
-          (2 ^ (F - suc n)) & none) (search reify depth 20) tt)
-        where
-          n : ℕ
-          n = index (suc m)
+pub log-short : (F : ℕ) → 4 ≤ F → {c s : 𝔾} → ReciprocalEntry F c s → Short F (most F) 2 s
+log-short F h entry = within-cancel (pos 8) (record { le = tt }) (within-weaken (entry .size)
+    (lin (two F ∷ two (F - 4) ∷ two (F - 2 - 2) ∷ []) (two-whole 4 F h &≡ ap two same &≡ none) (search reify depth 20) tt))
+  where
+    same : F - 2 - 2 ≡ F - 4
+    same = omega arith
 
-          X≥2 : pos 2 ⩽ two n
-          X≥2 = two-mono 1 n (omega arith)
+module _ (F M : ℕ) (room : M + 8 ≤ F) (t : StepTable) (promise : StepPromise F M t) where
+  pub sum-next : (n : ℕ) (x : State) → suc n ≤ M → Short F (most F) n (gauss (x .sum)) → Short F (most F) (suc n) (gauss (moved F t Log (suc n) x .sum))
+  unfolding next
+  sum-next n x h s = let d = select-digit F Log (suc n) x in
+      short-next F n (most F) (omega arith) d (promise (suc n) (omega arith) h (select F Log (suc n) x) d) s
+
+  -- after the steps 3 to n
+  pub sum-size : (x : State) → Short F (most F) 2 (gauss (x .sum)) → (n k : ℕ) → 2 + k ≡ n → n ≤ M → Within (gauss (run F t Log 2 k x .sum)) (most F)
+  sum-size x start n k e h = within-weaken (run-keeps F t Log (λ n x. Short F (most F) n (gauss (x .sum))) M sum-next 2 k n x e h start)
+      (lin (two (F - 4) ∷ two (F - 2 - n) ∷ []) (nonneg-pos (2 ^ (F - 2 - n)) & none) (search reify depth 20) tt)
+
+-- ---- BEFORE THE STEPS, from a turned point w: "it then lies within 7/64 of one in each part", and the size of the seat's logarithm
+module _ (F : ℕ) (wide : 10 ≤ F) (logs : ReciprocalTable) (w : 𝔾) (cone : Cone w) where
+  abbrev p : 𝔾
+  p = scaled F w
+
+  ranges : Scaled (two F) p
+  ranges = scaled-ranges F (omega arith) w cone
+
+  pub begun-converging : Converging F 2 (begun F logs w)
+  begun-converging = record { least = omega arith; near = reduced-near F wide p ranges; left = λ l. absurd (omega arith) }
+
+  pub begun-entry : ReciprocalPromise F logs → ReciprocalEntry F (reciprocalOf F (scaled F w)) (logs (cellX F (scaled F w)) (cellY F (scaled F w)))
+  begun-entry promise = promise (column F p) (row F p) (in-table F wide p ranges)
+
+  pub begun-short : ReciprocalPromise F logs → Short F (most F) 2 (gauss (begun F logs w .sum))
+  begun-short promise = within-neg (log-short F (omega arith) (begun-entry promise))

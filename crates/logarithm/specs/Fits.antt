@@ -1,31 +1,68 @@
--- That what the code makes fits a word, and is what the definitions say: the turn, the scale, the reciprocal, the digit and the error bound.
-use mathlib.Core.Path.{_≡_, sym, _∙_, ap, ap₂, subst}
+-- For the code: what its parts ask and make, that nothing they make overflows, and that an accepted point meets what they ask. Over a width F
+-- up to 48.
+use mathlib.Core.Path.{_≡_, refl, sym, _∙_, ap, ap₂, subst}
 use mathlib.Core.List.{[], _∷_}
-use Prim.Native.Nat.{ℕ, suc, _-_, _/_, _^_, _≤_, _<_}
+use Prim.Native.Nat.{ℕ, _+_, _-_, _^_, _≤_, _<_}
 use native.Mathlib.Nat.{pow-zero}
 use native.Mathlib.Omega.{arith}
 use lib.Dec.{T}
-use lib.IntN.{ℤ, pos, negsuc, negℤ, natAbs, _+ℤ_, _-ℤ_, _*ℤ_}
+use lib.IntN.{ℤ, pos, negsuc, negℤ, natAbs, _+ℤ_, _-ℤ_, _*ℤ_, *ℤ-comm}
 use lib.Signed.{shrZ, nonNeg}
 use mir.Syntax.{w64}
-use mir.Val.{Fits, SFits, toZ}
+use mir.Val.{Fits as WordFits, SFits}
 use Rattle.algebra.specs.Integer.{ℤR}
-use Rattle.algebra.specs.Gauss.{𝔾, gi-path, iᵍ, i-mul, conj, _*ᵍ_, ιᵍ}
+use Rattle.algebra.specs.Gauss.{𝔾, gi-path, iᵍ, i-mul, conj, _*ᵍ_, ιᵍ, g-mul-comm, g-mul-one}
 use Rattle.algebra.specs.Reify.{ring!, reify}
 use Rattle.algebra.specs.Order.{_⩽_, nonneg-pos, pos-mono, pos-inj-le}
 use Rattle.algebra.specs.Linear.{lin, lin<, _&_, none}
 use Rattle.algebra.specs.Power.{two, two-whole, two-mono}
 use Rattle.algebra.specs.Floor.{ceiling}
-use Rattle.algebra.specs.Parts.{Size, Parts, parts-weaken, size-add, size-neg, size-scale, size-mul, floorᵍ, scaled-re, scaled-im}
-use Rattle.word.specs.Fits.{zero-sub, sfits-range, sfits-size, sfits-pos, sfits-neg}
-use Rattle.word.specs.Shift.{size-shift, shift-constant-word}
+use Rattle.algebra.specs.Larger.{larger-le}
+use Rattle.algebra.specs.Parts.{Size, Parts, parts-weaken, size-nat, size-weaken, size-add, size-neg, size-mul, floorᵍ, scaled-re, scaled-im, within-parts}
+use Rattle.word.specs.Fits.{zero-sub, sfits-range, sfits-size}
+use Rattle.word.specs.Shift.{size-shift}
 use Rattle.point.specs.declared.Point.{Point}
 use Rattle.point.specs.Point.{gauss, point}
+use Rattle.point.specs.Limits.{Counts, steps-say, parts-say}
+use Rattle.answer.specs.declared.Figures.{Figures}
 use Rattle.entries.specs.declared.Entry.{Entry}
-use Rattle.logarithm.specs.Quadrant.{turns-back, quarters, spelling, turn-is, cone-pos, cone-parts}
-use Rattle.logarithm.specs.Scale.{bit-length, scaled, up, down, length-law, length-le, scaled-exact}
-use Rattle.logarithm.specs.Select.{half}
-use Rattle.logarithm.specs.Code.{turnOf, ScalePre, ReducePre, LessPre, BoundPre, boundAt}
+use Rattle.entries.specs.Reciprocal.{InTable}
+use Rattle.entries.specs.Promise.{StepTable, ReciprocalTable, StepPromise, ReciprocalPromise}
+use Rattle.entries.specs.Rows.{number}
+use Rattle.entries.specs.Table.{stepTable, reciprocalTable}
+use Rattle.iteration.specs.declared.Mode.the-variants.{Log}
+use Rattle.iteration.specs.Fits.{Fits}
+use Rattle.logarithm.specs.declared.reduction.Turn.{Turn}
+use Rattle.logarithm.specs.Quadrant.{turned, quadrant, turns-back, quarters, spelling, turn-is, Cone, cone-pos, cone-parts}
+use Rattle.logarithm.specs.Scale.{bits, bit-length, scaled, up, down, length-law, length-le, scaled-exact, Scaled, scaled-ranges}
+use Rattle.logarithm.specs.Cell.{column, row, cellX, cellY, reciprocalOf, reciprocal-parts, in-table}
+use Rattle.logarithm.specs.Answer.{begun, errorBound, figures}
+use Rattle.logarithm.specs.Convergence.{converging-run, point-size, most, log-short, sum-size, begun-converging, begun-entry, begun-short}
+use Rattle.logarithm.specs.Close.{Accepted, cone, M-is}
+
+-- ---- what the parts ask and make
+abbrev pub turnOf : Point → Turn
+turnOf p = record { point = point (turned (gauss p)); quadrant = quadrant (gauss p) }
+
+-- w is turned, and b is the length of its real part
+pub record ScalePre (F : ℕ) (w : Point) (b : ℕ) : Type 0 where
+  pub cone : Cone (gauss w)
+  pub small : w .x ⩽ two (F + 10)
+  pub length : b ≡ bit-length (gauss w)
+
+pub record ReducePre (F : ℕ) (p : Point) (c : Entry) : Type 0 where
+  pub point : Parts (gauss p) (two F)
+  pub factor : Parts (number c) (pos 124)
+
+pub record BoundPre (F n : ℕ) (m : ℤ) : Type 0 where
+  pub most : n + 8 ≤ F
+  pub size : Size m (two (F + 10))
+
+abbrev pub boundAt : ℕ → ℤ → ℤ
+boundAt n m = ceiling (pos 3 *ℤ m) (2 ^ n)
+
+abbrev pub figuresOf : ℕ → Point → Figures
+figuresOf n p = figures 48 stepTable reciprocalTable n (gauss p)
 
 -- ---- the turn
 -- w after m quarter turns back, with q spelled so
@@ -42,7 +79,7 @@ pub parts-i : {z : 𝔾} {b : ℤ} → Parts z b → Parts (iᵍ *ᵍ z) b
 parts-i {z} {b} h = subst (λ w. Parts w b) (sym (i-mul z)) (record { re = size-neg (h .im); im = h .re })
 
 -- ---- the length in bits
-pub cast-fits : (x : ℤ) → pos 1 ⩽ x → SFits w64 x → T (nonNeg x) × Fits w64 (natAbs x)
+pub cast-fits : (x : ℤ) → pos 1 ⩽ x → SFits w64 x → T (nonNeg x) × WordFits w64 (natAbs x)
 cast-fits (pos n) h f = (tt, record { fits = omega (arith, f .sfits) })
 cast-fits (negsuc n) h f = absurd (h .le)
 
@@ -51,77 +88,67 @@ natAbs-pos (pos n) h = pos-inj-le h
 natAbs-pos (negsuc n) h = absurd (h .le)
 
 -- ---- the scale
--- the parts are at most 2^b in size
-scale-parts : {w : Point} {b : ℕ} → ScalePre w b → Parts (gauss w) (two b)
-scale-parts {w} {b} s = subst (λ b. Parts (gauss w) (two b)) (sym (s .length))
-    (parts-weaken (cone-parts (s .cone)) (lin (w .x ∷ two (bit-length (gauss w)) ∷ []) (length-law (gauss w) (cone-pos (s .cone)) .above & none)
-    (search reify depth 20) tt))
+pub record Up (F : ℕ) (w : Point) (b : ℕ) : Type 0 where
+  pub x : SFits w64 (w .x *ℤ two (F - b))
+  pub y : SFits w64 (w .y *ℤ two (F - b))
+  pub made : record { x = w .x *ℤ two (F - b); y = w .y *ℤ two (F - b) } ≡ point (scaled F (gauss w))
 
-pub scale-length : {w : Point} {b : ℕ} → ScalePre w b → b ≤ 59
-scale-length {w} {b} s = subst (λ b. b ≤ 59) (sym (s .length)) (length-le (gauss w) 58 (cone-pos (s .cone)) (s .small))
-
--- up, for k ≤ 0
-pub record Up (w : Point) (b : ℕ) : Type 0 where
-  pub x : SFits w64 (w .x *ℤ two (48 - b))
-  pub y : SFits w64 (w .y *ℤ two (48 - b))
-  pub made : record { x = w .x *ℤ two (48 - b); y = w .y *ℤ two (48 - b) } ≡ point (scaled 48 (gauss w))
-
-pub scale-up : {w : Point} {b : ℕ} → ScalePre w b → b ≤ 48 → Up w b
-scale-up {w} {b} s h = record {
-  x = sfits-size (grown (w .x) (scale-parts s .re)) tt;
-  y = sfits-size (grown (w .y) (scale-parts s .im)) tt;
-  made = ap point (gi-path (times (w .x) ∙ sym (scaled-re (two (48 - b)) (gauss w))) (times (w .y) ∙ sym (scaled-im (two (48 - b)) (gauss w)))
-      ∙ ap (λ b. ιᵍ (two (48 - b)) *ᵍ gauss w) (s .length) ∙ sym (scaled-exact 48 (gauss w) (subst (λ b. b ≤ 48) (s .length) h)));
-}
-  where
-    times : (x : ℤ) → x *ℤ two (48 - b) ≡ two (48 - b) *ℤ x
-    times x = ring! ℤR (x ∷ two (48 - b) ∷ []) (search reify depth 20) tt
-
-    whole : two (48 - b) *ℤ two b ≡ two 48
-    whole = ring! ℤR (two (48 - b) ∷ two b ∷ []) (search reify depth 20) tt ∙ two-whole b 48 h
-
-    grown : (x : ℤ) → Size x (two b) → Size (x *ℤ two (48 - b)) (two 48)
-    grown x l = subst (λ v. Size (x *ℤ two (48 - b)) v) whole
-        (subst (λ v. Size v (two (48 - b) *ℤ two b)) (sym (times x)) (size-scale (two (48 - b)) (nonneg-pos (2 ^ (48 - b))) l))
-
--- down, for k > 0
-pub record Down (w : Point) (b : ℕ) : Type 0 where
+pub record Down (F : ℕ) (w : Point) (b : ℕ) : Type 0 where
   pub x : SFits w64 (w .x)
   pub y : SFits w64 (w .y)
-  pub over-x : SFits w64 (shrZ (w .x) (2 ^ (b - 48)))
-  pub over-y : SFits w64 (shrZ (w .y) (2 ^ (b - 48)))
-  pub made : record { x = shrZ (w .x) (2 ^ (b - 48)); y = shrZ (w .y) (2 ^ (b - 48)) } ≡ point (scaled 48 (gauss w))
+  pub over-x : SFits w64 (shrZ (w .x) (2 ^ (b - F)))
+  pub over-y : SFits w64 (shrZ (w .y) (2 ^ (b - F)))
+  pub made : record { x = shrZ (w .x) (2 ^ (b - F)); y = shrZ (w .y) (2 ^ (b - F)) } ≡ point (scaled F (gauss w))
 
-pub scale-down : {w : Point} {b : ℕ} → ScalePre w b → 48 < b → Down w b
-unfolding scaled floorᵍ
-scale-down {w} {b} s h = record {
-  x = sfits-size (small .re) tt;
-  y = sfits-size (small .im) tt;
-  over-x = sfits-size (size-shift (2 ^ (b - 48)) (small .re)) tt;
-  over-y = sfits-size (size-shift (2 ^ (b - 48)) (small .im)) tt;
-  made = ap₂ (λ z b. point (floorᵍ z (down 48 b))) (gi-path (sym (one-re) ∙ ap (λ u. (ιᵍ (pos u) *ᵍ gauss w) .re) (sym one))
-      (sym one-im ∙ ap (λ u. (ιᵍ (pos u) *ᵍ gauss w) .im) (sym one))) (s .length);
-}
-  where
-    small : Parts (gauss w) (two 59)
-    small = parts-weaken (scale-parts s) (two-mono b 59 (scale-length s))
+module _ {F : ℕ} {w : Point} {b : ℕ} (s : ScalePre F w b) where
+  -- the parts are at most 2^b in size
+  scale-parts : Parts (gauss w) (two b)
+  scale-parts = subst (λ b. Parts (gauss w) (two b)) (sym (s .length))
+      (parts-weaken (cone-parts (s .cone)) (lin (w .x ∷ two (bit-length (gauss w)) ∷ []) (length-law (gauss w) (cone-pos (s .cone)) .above & none)
+      (search reify depth 20) tt))
 
-    nothing : (b : ℕ) → 48 < b → 48 - b ≡ 0
-    nothing b h = omega arith
+  pub scale-length : b ≤ F + 11
+  scale-length = subst (λ b. b ≤ F + 11) (sym (s .length)) (omega (arith, length-le (gauss w) (F + 10) (cone-pos (s .cone)) (s .small)))
 
-    one : up 48 (bit-length (gauss w)) ≡ 1
-    one = ap (λ t. 2 ^ t) (nothing (bit-length (gauss w)) (subst (λ b. 48 < b) (s .length) h)) ∙ pow-zero 2
+  fits : F ≤ 48 → {x : ℤ} (m : ℕ) → m ≤ F + 11 → Size x (two m) → SFits w64 x
+  fits narrow m h l = sfits-size (size-weaken l (two-mono m 59 (omega arith))) tt
 
-    one-re : (ιᵍ (pos 1) *ᵍ gauss w) .re ≡ w .x
-    one-re = scaled-re (pos 1) (gauss w) ∙ ring! ℤR (w .x ∷ []) (search reify depth 20) tt
+  -- up, for k ≤ 0
+  pub scale-up : F ≤ 48 → b ≤ F → Up F w b
+  scale-up narrow h = record {
+    x = fits narrow F (omega arith) (grown (scale-parts .re));
+    y = fits narrow F (omega arith) (grown (scale-parts .im));
+    made = ap point (gi-path (*ℤ-comm (w .x) k ∙ sym (scaled-re k (gauss w))) (*ℤ-comm (w .y) k ∙ sym (scaled-im k (gauss w)))
+        ∙ ap (λ b. ιᵍ (two (F - b)) *ᵍ gauss w) (s .length) ∙ sym (scaled-exact F (gauss w) (subst (λ b. b ≤ F) (s .length) h)));
+  }
+    where
+      k : ℤ
+      k = two (F - b)
 
-    one-im : (ιᵍ (pos 1) *ᵍ gauss w) .im ≡ w .y
-    one-im = scaled-im (pos 1) (gauss w) ∙ ring! ℤR (w .y ∷ []) (search reify depth 20) tt
+      grown : {x : ℤ} → Size x (two b) → Size (x *ℤ two (F - b)) (two F)
+      grown {x} l = subst (λ v. Size (x *ℤ two (F - b)) v) (two-whole b F h) (size-mul l (size-nat (omega arith)))
 
--- k, from the length
-pub exponent-fits : (b : ℕ) → b ≤ 59 → SFits w64 (pos b -ℤ pos 48)
-exponent-fits b h = sfits-range (lin (pos b ∷ []) (nonneg-pos b & none) (search reify depth 20) tt)
-    (lin< (pos b ∷ []) (pos-mono h & none) (search reify depth 20) tt)
+  -- down, for k > 0
+  pub scale-down : F ≤ 48 → F < b → Down F w b
+  unfolding scaled floorᵍ
+  scale-down narrow h = record {
+    x = fits narrow b scale-length (scale-parts .re);
+    y = fits narrow b scale-length (scale-parts .im);
+    over-x = fits narrow b scale-length (size-shift (2 ^ (b - F)) (scale-parts .re));
+    over-y = fits narrow b scale-length (size-shift (2 ^ (b - F)) (scale-parts .im));
+    made = ap₂ (λ z b. point (floorᵍ z (down F b))) (sym (ap (λ u. ιᵍ (pos u) *ᵍ gauss w) one ∙ (g-mul-comm (ιᵍ (pos 1)) (gauss w) ∙ g-mul-one (gauss w)))) (s .length);
+  }
+    where
+      nothing : F - bit-length (gauss w) ≡ 0
+      nothing = omega (arith, subst (λ b. F < b) (s .length) h)
+
+      one : up F (bit-length (gauss w)) ≡ 1
+      one = ap (λ t. 2 ^ t) nothing ∙ pow-zero 2
+
+  -- k, from the length
+  pub exponent-fits : F ≤ 48 → SFits w64 (pos b -ℤ pos F)
+  exponent-fits narrow = sfits-range (lin (pos b ∷ pos F ∷ []) (nonneg-pos b & pos-mono narrow & none) (search reify depth 20) tt)
+      (lin< (pos b ∷ pos F ∷ []) (pos-mono scale-length & none) (search reify depth 20) tt)
 
 -- ---- the reciprocal
 pub record ReduceFits (p : Point) (c : Entry) : Type 0 where
@@ -138,90 +165,36 @@ pub record ReduceFits (p : Point) (c : Entry) : Type 0 where
   pub over-re : SFits w64 (shrZ (c .re *ℤ p .x -ℤ c .im *ℤ p .y) 64)
   pub over-im : SFits w64 (shrZ (c .re *ℤ p .y +ℤ c .im *ℤ p .x) 64)
 
-pub reduce-fits : {p : Point} {c : Entry} → ReducePre p c → ReduceFits p c
-reduce-fits {p} {c} h = record {
-  x = sfits-size (h .point .re) tt;
-  y = sfits-size (h .point .im) tt;
+pub reduce-fits : {F : ℕ} → F ≤ 48 → {p : Point} {c : Entry} → ReducePre F p c → ReduceFits p c
+reduce-fits {F} narrow {p} {c} h = record {
+  x = sfits-size (z .re) tt;
+  y = sfits-size (z .im) tt;
   a = sfits-size (h .factor .re) tt;
   b = sfits-size (h .factor .im) tt;
   ax = sfits-size ax tt;
   bY = sfits-size bY tt;
   aY = sfits-size aY tt;
   bx = sfits-size bx tt;
-  re = sfits-size re tt;
-  im = sfits-size im tt;
-  over-re = sfits-size (size-shift 64 re) tt;
-  over-im = sfits-size (size-shift 64 im) tt;
+  re = sfits-size (size-add ax (size-neg bY)) tt;
+  im = sfits-size (size-add aY bx) tt;
+  over-re = sfits-size (size-shift 64 (size-add ax (size-neg bY))) tt;
+  over-im = sfits-size (size-shift 64 (size-add aY bx)) tt;
 }
   where
+    z : Parts (gauss p) (two 48)
+    z = parts-weaken (h .point) (two-mono F 48 narrow)
+
     ax : Size (c .re *ℤ p .x) (pos 124 *ℤ two 48)
-    ax = size-mul (h .factor .re) (h .point .re)
+    ax = size-mul (h .factor .re) (z .re)
 
     bY : Size (c .im *ℤ p .y) (pos 124 *ℤ two 48)
-    bY = size-mul (h .factor .im) (h .point .im)
+    bY = size-mul (h .factor .im) (z .im)
 
     aY : Size (c .re *ℤ p .y) (pos 124 *ℤ two 48)
-    aY = size-mul (h .factor .re) (h .point .im)
+    aY = size-mul (h .factor .re) (z .im)
 
     bx : Size (c .im *ℤ p .x) (pos 124 *ℤ two 48)
-    bx = size-mul (h .factor .im) (h .point .re)
-
-    re : Size (c .re *ℤ p .x -ℤ c .im *ℤ p .y) (pos 124 *ℤ two 48 +ℤ pos 124 *ℤ two 48)
-    re = size-add ax (size-neg bY)
-
-    im : Size (c .re *ℤ p .y +ℤ c .im *ℤ p .x) (pos 124 *ℤ two 48 +ℤ pos 124 *ℤ two 48)
-    im = size-add aY bx
-
--- ---- the digit
-pub record ResidualFits (z : 𝔾) : Type 0 where
-  pub x : SFits w64 (z .re)
-  pub y : SFits w64 (z .im)
-  pub less-x : SFits w64 (z .re -ℤ two 48)
-  pub less-y : SFits w64 (z .im -ℤ pos 0)
-
-pub residual-fits : {z : 𝔾} → Parts z (two 61) → ResidualFits z
-residual-fits {z} h = record {
-  x = sfits-size (h .re) tt;
-  y = sfits-size (h .im) tt;
-  less-x = sfits-size (size-add (h .re) (size-neg one)) tt;
-  less-y = sfits-size (size-add (h .im) (size-neg nought)) tt;
-}
-  where
-    one : Size (two 48) (two 48)
-    one = record { lo = record { le = tt }; hi = record { le = tt } }
-
-    nought : Size (pos 0) (pos 0)
-    nought = record { lo = record { le = tt }; hi = record { le = tt } }
-
-pub minus-fits : (t : ℤ) → pos 0 ⩽ t → SFits w64 t → SFits w64 (pos 0 -ℤ t)
-minus-fits (pos n) h f = subst (SFits w64) (sym (zero-sub (pos n))) (sfits-neg n (omega (arith, f .sfits)))
-minus-fits (negsuc n) h f = absurd (h .le)
-
--- half of 1/2^n, as the code shifts it
-pub half-word : (n : ℕ) → n ≤ 40 → toZ w64 (140737488355328 / 2 ^ n) ≡ half 48 n
-half-word n h = shift-constant-word (pos 1) 47 n (omega arith) (sfits-pos (omega arith)) ∙ ring! ℤR (two (47 - n) ∷ []) (search reify depth 20) tt ∙ ap two same
-  where
-    same : 47 - n ≡ 48 - suc n
-    same = omega arith
-
--- ---- an entry lost
-pub record LessFits (a : Point) (t : Entry) : Type 0 where
-  pub x : SFits w64 (a .x)
-  pub y : SFits w64 (a .y)
-  pub re : SFits w64 (t .re)
-  pub im : SFits w64 (t .im)
-  pub less-x : SFits w64 (a .x -ℤ t .re)
-  pub less-y : SFits w64 (a .y -ℤ t .im)
-
-pub less-fits : {a : Point} {t : Entry} → LessPre a t → LessFits a t
-less-fits h = record {
-  x = sfits-size (h .answer .re) tt;
-  y = sfits-size (h .answer .im) tt;
-  re = sfits-size (h .entry .re) tt;
-  im = sfits-size (h .entry .im) tt;
-  less-x = sfits-size (size-add (h .answer .re) (size-neg (h .entry .re))) tt;
-  less-y = sfits-size (size-add (h .answer .im) (size-neg (h .entry .im))) tt;
-}
+    bx = size-mul (h .factor .im) (z .re)
 
 -- ---- the error bound
 pub record BoundFits (n : ℕ) (m : ℤ) : Type 0 where
@@ -231,24 +204,97 @@ pub record BoundFits (n : ℕ) (m : ℤ) : Type 0 where
   pub whole : SFits w64 (pos 0 -ℤ shrZ (negsuc 2 *ℤ m) (2 ^ n))
   pub made : pos 0 -ℤ shrZ (negsuc 2 *ℤ m) (2 ^ n) ≡ boundAt n m
 
-pub bound-fits : {n : ℕ} {m : ℤ} → BoundPre n m → BoundFits n m
+pub bound-fits : {F : ℕ} → F ≤ 48 → {n : ℕ} {m : ℤ} → BoundPre F n m → BoundFits n m
 unfolding ceiling
-bound-fits {n} {m} p = record {
-  m-fits = sfits-size (p .size) tt;
+bound-fits {F} narrow {n} {m} p = record {
+  m-fits = sfits-size size tt;
   triple = sfits-size tripled tt;
   over = sfits-size shifted tt;
-  whole = subst (SFits w64) (sym (zero-sub quotient)) (sfits-size (size-neg shifted) tt);
-  made = zero-sub quotient ∙ ap (λ u. negℤ (shrZ u (2 ^ n))) three;
+  whole = subst (SFits w64) (sym (zero-sub (shrZ (negsuc 2 *ℤ m) (2 ^ n)))) (sfits-size (size-neg shifted) tt);
+  made = zero-sub (shrZ (negsuc 2 *ℤ m) (2 ^ n)) ∙ ap (λ u. negℤ (shrZ u (2 ^ n))) three;
 }
   where
+    size : Size m (two 58)
+    size = size-weaken (p .size) (two-mono (F + 10) 58 (omega arith))
+
     three : negsuc 2 *ℤ m ≡ negℤ (pos 3 *ℤ m)
     three = ring! ℤR (m ∷ []) (search reify depth 20) tt
 
     tripled : Size (negsuc 2 *ℤ m) (pos 3 *ℤ two 58)
-    tripled = subst (λ v. Size v (pos 3 *ℤ two 58)) (sym three) (size-neg (size-scale (pos 3) (nonneg-pos 3) (p .size)))
+    tripled = size-mul {x = negsuc 2} {a = pos 3} (record { lo = record { le = tt }; hi = record { le = tt } }) size
 
     shifted : Size (shrZ (negsuc 2 *ℤ m) (2 ^ n)) (pos 3 *ℤ two 58)
     shifted = size-shift (2 ^ n) tripled
 
-    quotient : ℤ
-    quotient = shrZ (negsuc 2 *ℤ m) (2 ^ n)
+-- ---- what the reduction hands on
+module _ {F : ℕ} (wide : 10 ≤ F) {w : Point} {b : ℕ} (s : ScalePre F w b) where
+  abbrev z : 𝔾
+  z = scaled F (gauss w)
+
+  ranges : Scaled (two F) z
+  ranges = scaled-ranges F (omega arith) (gauss w) (s .cone)
+
+  pub in-cell : InTable (column F (scaled F (gauss w))) (row F (scaled F (gauss w)))
+  in-cell = in-table F wide z ranges
+
+  pub reduce-ok : (c : Entry) → number c ≡ reciprocalOf F (scaled F (gauss w)) → ReducePre F (point (scaled F (gauss w))) c
+  reduce-ok c e = record {
+    point = record {
+      re = record {
+        lo = lin (z .re ∷ two F ∷ []) (ranges .half & nonneg-pos (2 ^ F) & none) (search reify depth 20) tt;
+        hi = lin (z .re ∷ two F ∷ []) (ranges .below & none) (search reify depth 20) tt;
+      };
+      im = record {
+        lo = lin (z .re ∷ z .im ∷ two F ∷ []) (ranges .below & ranges .lo & none) (search reify depth 20) tt;
+        hi = lin (z .re ∷ z .im ∷ two F ∷ []) (ranges .below & ranges .hi & none) (search reify depth 20) tt;
+      };
+    };
+    factor = subst (λ z. Parts z (pos 124)) (sym e) (reciprocal-parts F wide z ranges);
+  }
+
+  pub log-parts : F ≤ 48 → (logs : ReciprocalTable) → ReciprocalPromise F logs → Parts (logs (cellX F (scaled F (gauss w))) (cellY F (scaled F (gauss w)))) (two 61)
+  log-parts narrow logs promise = parts-weaken (within-parts (log-short F (omega arith) (begun-entry F wide logs (gauss w) (s .cone) promise)))
+      (lin (two (F - 4) ∷ two (F - 2 - 2) ∷ []) (two-mono (F - 4) 44 (omega arith) & nonneg-pos (2 ^ (F - 2 - 2)) & none) (search reify depth 20) tt)
+
+-- ---- an accepted point
+module _ {F : ℕ} (wide : 11 ≤ F) {n : ℕ} {p : Point} (a : Accepted F (pos n) (gauss p)) where
+  abbrev v : 𝔾
+  v = turned (gauss p)
+
+  count : Counts F 3 (pos n)
+  count = steps-say F 3 (pos n) (a .steps)
+
+  small : turned (gauss p) .re ⩽ two (F + 10)
+  small = subst (λ x. x ⩽ two (F + 10)) (sym (M-is F wide a)) (larger-le (parts-say F (gauss p) (a .parts)))
+
+  pub turn-ok : F ≤ 48 → Parts (gauss p) (two 61)
+  turn-ok narrow = parts-weaken (parts-say F (gauss p) (a .parts)) (two-mono (F + 10) 61 (omega arith))
+
+  pub turned-pos : pos 1 ⩽ turned (gauss p) .re
+  turned-pos = cone-pos (cone F wide a)
+
+  pub scale-ok : ScalePre F (point (turned (gauss p))) (bits (natAbs (turned (gauss p) .re)))
+  unfolding bit-length
+  scale-ok = record { cone = cone F wide a; small = small; length = refl }
+
+  pub bound-ok : BoundPre F n (turned (gauss p) .re)
+  bound-ok = record {
+    most = omega (arith, count .at-most);
+    size = record { lo = lin (v .re ∷ two (F + 10) ∷ []) (turned-pos & nonneg-pos (2 ^ (F + 10)) & none) (search reify depth 20) tt; hi = small };
+  }
+
+  -- the steps
+  pub run-ok : F ≤ 48 → (steps : StepTable) (logs : ReciprocalTable) → StepPromise F (F - 8) steps → ReciprocalPromise F logs → Fits F steps Log 2 n (begun F logs (turned (gauss p)))
+  run-ok narrow steps logs entries reciprocals = record {
+    most = omega (arith, count .at-most);
+    small = λ j h. record {
+      point = parts-weaken (point-size F (2 + j) _ (converging-run F steps _ (begun-converging F (omega arith) logs v (cone F wide a)) (2 + j) j (omega arith) (omega (arith, count .at-most, count .at-least))))
+          (lin (two F ∷ []) (two-mono F 48 narrow & none) (search reify depth 20) tt);
+      sum = parts-weaken (within-parts (sum-size F (F - 8) (omega arith) steps entries _ (begun-short F (omega arith) logs v (cone F wide a) reciprocals) (2 + j) j
+          (omega arith) (omega (arith, count .at-most, count .at-least)))) (lin (two (F - 4) ∷ []) (two-mono (F - 4) 44 (omega arith) & none) (search reify depth 20) tt);
+    };
+  }
+
+  pub bound-made : boundAt n (turned (gauss p) .re) ≡ errorBound n (gauss p)
+  unfolding errorBound
+  bound-made = ap (boundAt n) (M-is F wide a)

@@ -7,10 +7,13 @@ ghost use Rattle.algebra.specs.Power.{two};
 ghost use Rattle.algebra.specs.Parts.{Parts, floorᵍ};
 ghost use Rattle.point.specs.Point.{gauss, point};
 ghost use Rattle.entries.specs.Rows.{number};
+ghost use Rattle.entries.specs.Table.{reciprocalTable};
 ghost use Rattle.logarithm.specs.Quadrant.{inCone, turn-back};
 ghost use Rattle.logarithm.specs.Scale.{bits, scaled};
-ghost use Rattle.logarithm.specs.Code.{turnOf, ScalePre, ReducePre, begunOf};
+ghost use Rattle.logarithm.specs.Answer.{begun};
+ghost use Rattle.logarithm.specs.Fits.{turnOf, ScalePre, ReducePre};
 use entries::Entry;
+use iteration::State;
 use point::Point;
 
 // ---- the turn
@@ -80,7 +83,7 @@ pub fn bit_length(x: i64) -> usize
 
 // w over 2^(b - 48), b being the length of its x: exactly, or by floor.
 fn scaled(w: Point, b: usize) -> Point
-    requires { ⌜ ScalePre w b ⌝ }
+    requires { ⌜ ScalePre 48 w b ⌝ }
     ensures { λ r. ⌜ r ≡ point (scaled 48 (gauss w)) ⌝ }
 {
     let x = w.x;
@@ -104,7 +107,7 @@ fn scaled(w: Point, b: usize) -> Point
 
 // Times a reciprocal in 64ths, each part by floor.
 fn reduced(p: Point, c: Entry) -> Point
-    requires { ⌜ ReducePre p c ⌝ }
+    requires { ⌜ ReducePre 48 p c ⌝ }
     ensures { λ r. ⌜ r ≡ point (floorᵍ (number c *ᵍ gauss p) 64) ⌝ }
 {
     let x = p.x;
@@ -128,16 +131,10 @@ fn negated(t: Entry) -> Point
     Point { x: -re, y: -im }
 }
 
-// The point that the steps move to one, and the answer so far.
-pub struct State {
-    pub point: Point,
-    pub answer: Point,
-}
-
 // The turned point scaled and brought near one, and minus the logarithm of the reciprocal; a cell is 2^44 units wide.
 pub fn begun(w: Point, b: usize) -> State
-    requires { ⌜ ScalePre w b ⌝ }
-    ensures { λ r. ⌜ r ≡ begunOf w ⌝ }
+    requires { ⌜ ScalePre 48 w b ⌝ }
+    ensures { λ r. ⌜ r ≡ begun 48 reciprocalTable (gauss w) ⌝ }
 {
     let p = scaled(w, b);
     let x = p.x;
@@ -147,6 +144,6 @@ pub fn begun(w: Point, b: usize) -> State
     let c = tables::reciprocal(column, row);
     let l = tables::reciprocal_log(column, row);
     let point = reduced(p, c);
-    let answer = negated(l);
-    State { point, answer }
+    let sum = negated(l);
+    State { point, sum }
 }

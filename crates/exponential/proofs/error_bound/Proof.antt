@@ -15,7 +15,7 @@ use Rattle.exponential.proofs.error_bound.Statement.{statement}
 use Rattle.exponential.proofs.error_bound.Tie as tie
 
 fits : (c : tie.After-larger-part) → BoundFits (c .before .args .n) (c .larger-part .result)
-fits c = subst (λ m. BoundFits (c .before .args .n) m) (sym (c .larger-part .ensures)) (bound-fits (c .before .args .n) (c .before .pre .0) (c .before .pre .1))
+fits c = subst (λ m. BoundFits (c .before .args .n) m) (sym (c .larger-part .ensures)) (bound-fits 48 (c .before .args .n) (omega arith) (c .before .pre .0) (c .before .pre .1))
 
 -- ---- the contract
 -- the code's words, read back

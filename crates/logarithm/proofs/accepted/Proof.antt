@@ -1,6 +1,8 @@
 -- `logarithm::accepted` meets its contract.
 use mathlib.Core.Path.{_≡_, sym, _∙_, ap, subst, subst₂}
+use Prim.Native.Nat.{_-_}
 use native.Mathlib.Omega.{arith}
+use lib.Dec.{lit≤}
 use lib.IntN.{pos, natAbs, _-ℤ_}
 use mir.Syntax.{w64}
 use mir.Val.{SFits, toZ, ofZ}
@@ -8,14 +10,17 @@ use Rattle.algebra.specs.Order.{_⩽_}
 use Rattle.word.specs.Fits.{back, sfits-mag, word-pos}
 use Rattle.point.specs.declared.Point.{Point}
 use Rattle.point.specs.Point.{gauss, point}
+use Rattle.entries.specs.Table.{stepTable, reciprocalTable}
+use Rattle.entries.specs.Promise48.{step-promise, reciprocal-promise}
+use Rattle.iteration.specs.declared.State.{State}
+use Rattle.iteration.specs.declared.Mode.the-variants.{Log}
+use Rattle.iteration.specs.State.{run}
+use Rattle.iteration.specs.Fits.{Fits}
 use Rattle.logarithm.specs.declared.reduction.Turn.{Turn}
-use Rattle.logarithm.specs.declared.reduction.State.{State}
 use Rattle.logarithm.specs.Quadrant.{turned}
-use Rattle.logarithm.specs.Scale.{bits}
-use Rattle.logarithm.specs.Run.{answer, log}
-use Rattle.logarithm.specs.Code.{ScalePre, begunOf, RunPre, runOf, BoundPre, boundAt}
-use Rattle.logarithm.specs.Fits.{scale-length, exponent-fits}
-use Rattle.logarithm.specs.Steps.{turn-ok, turned-pos, scale-ok, count-ok, bound-ok, exponent-made, bound-made, run-ok}
+use Rattle.logarithm.specs.Scale.{bits, bit-length, binary-exponent}
+use Rattle.logarithm.specs.Answer.{begun, ended}
+use Rattle.logarithm.specs.Fits.{ScalePre, scale-length, exponent-fits, BoundPre, boundAt, turn-ok, turned-pos, scale-ok, bound-ok, bound-made, run-ok}
 use Rattle.logarithm.proofs.accepted.Statement.{statement}
 use Rattle.logarithm.proofs.accepted.Tie as tie
 
@@ -32,11 +37,14 @@ x-is c = back (sfits-mag (c .before .before .before .turned .result .point .x) (
 length-is : (c : tie.After-bit-length) → c .bit-length .result ≡ bits (natAbs (turned (gauss (start (c .before) .args .p)) .re))
 length-is c = c .bit-length .ensures ∙ ap (λ x. bits (natAbs x)) (x-is (c .before))
 
-scalable : (c : tie.After-bit-length) → ScalePre (c .before .before .before .before .turned .result .point) (c .bit-length .result)
-scalable c = subst₂ ScalePre (sym (turned-is (c .before))) (sym (length-is c)) (scale-ok (start (c .before) .pre))
+scalable : (c : tie.After-bit-length) → ScalePre 48 (c .before .before .before .before .turned .result .point) (c .bit-length .result)
+scalable c = subst₂ (ScalePre 48) (sym (turned-is (c .before))) (sym (length-is c)) (scale-ok (lit≤ tt) (start (c .before) .pre))
 
-begun-is : (c : tie.After-begun) → c .begun .result ≡ begunOf (point (turned (gauss (start (c .before .before) .args .p))))
-begun-is c = c .begun .ensures ∙ ap begunOf (turned-is (c .before .before))
+begun-is : (c : tie.After-begun) → c .begun .result ≡ begun 48 reciprocalTable (turned (gauss (start (c .before .before) .args .p)))
+begun-is c = c .begun .ensures ∙ ap (λ w. begun 48 reciprocalTable (gauss w)) (turned-is (c .before .before))
+
+ran : (c : tie.After-run) → let s = start (c .before .before .before) .args in c .run .result ≡ ended 48 stepTable reciprocalTable (s .n) (turned (gauss (s .p)))
+ran c = c .run .ensures ∙ ap (run 48 stepTable Log 2 (start (c .before .before .before) .args .n - 2)) (begun-is (c .before))
 
 abbrev lengthened : tie.After-value → tie.After-bit-length
 lengthened c = c .before .before .before
@@ -45,11 +53,11 @@ word-is : (c : tie.After-value) → toZ w64 (lengthened c .bit-length .result) �
 word-is c = word-pos (lengthened c .bit-length .result) (omega (arith, scale-length (scalable (lengthened c))))
 
 exponent-fit : (c : tie.After-value) → SFits w64 (toZ w64 (lengthened c .bit-length .result) -ℤ pos 48)
-exponent-fit c = subst (λ b. SFits w64 (b -ℤ pos 48)) (sym (word-is c)) (exponent-fits (lengthened c .bit-length .result) (scale-length (scalable (lengthened c))))
+exponent-fit c = subst (λ b. SFits w64 (b -ℤ pos 48)) (sym (word-is c)) (exponent-fits (scalable (lengthened c)) (lit≤ tt))
 
 -- ---- the contract
 returns : tie.Need-returns
-unfolding log answer
+unfolding binary-exponent bit-length
 returns c =
     let u = c .before in
     let r = u .before in
@@ -57,20 +65,19 @@ returns c =
     let t = l .before in
     let s = start t in
     let n = s .args .n in
-    let ran = r .run .ensures ∙ ap (runOf n) (begun-is (r .before)) in
-    let value = ap (λ (e : State). e .answer) ran in
-    let k = back (exponent-fit u) ∙ (ap (λ b. b -ℤ pos 48) (word-is u ∙ ap pos (length-is l)) ∙ exponent-made (s .pre)) in
+    let value = ap (λ (e : State). e .sum) (ran r) in
+    let k = back (exponent-fit u) ∙ (ap (λ b. b -ℤ pos 48) (word-is u ∙ ap pos (length-is l))) in
     let q = back (sfits-mag (t .before .before .before .turned .result .quadrant) (t .before .struct-told .given .1 .0 .1)) ∙ ap (λ (e : Turn). e .quadrant)
     (t .before .before .before .turned .ensures) in
-    let b = back (sfits-mag (c .error-bound .result) (c .error-bound .ok)) ∙ (c .error-bound .ensures ∙ (ap (boundAt n) (x-is t) ∙ bound-made (s .pre))) in
+    let b = back (sfits-mag (c .error-bound .result) (c .error-bound .ok)) ∙ (c .error-bound .ensures ∙ (ap (boundAt n) (x-is t) ∙ bound-made (lit≤ tt) (s .pre))) in
     λ i. record { value = value i; «binary_exponent» = k i; quadrant = q i; «error_bound» = b i }
 
 -- ---- the needs
 turned-requires : tie.Need-turned-requires
-turned-requires c κs = turn-ok (c .pre)
+turned-requires c κs = turn-ok (lit≤ tt) (c .pre) (lit≤ tt)
 
 bit-length-requires : tie.Need-bit-length-requires
-bit-length-requires c κs = subst (λ x. pos 1 ⩽ x) (sym (x-is c)) (turned-pos (start c .pre))
+bit-length-requires c κs = subst (λ x. pos 1 ⩽ x) (sym (x-is c)) (turned-pos (lit≤ tt) (start c .pre))
 
 begun-requires : tie.Need-begun-requires
 begun-requires c κs = scalable c
@@ -78,8 +85,7 @@ begun-requires c κs = scalable c
 run-requires : tie.Need-run-requires
 run-requires c κs =
     let s = start (c .before .before) in
-    let n = count-ok (s .pre) in
-    subst (RunPre (s .args .n)) (sym (c .begun .ensures)) (run-ok (scalable (c .before)) (s .args .n) (n .0) (n .1))
+    subst (Fits 48 stepTable Log 2 (s .args .n)) (sym (begun-is c)) (run-ok (lit≤ tt) (s .pre) (lit≤ tt) stepTable reciprocalTable step-promise reciprocal-promise)
 
 cast-binary-exponent : tie.Need-cast-binary-exponent
 cast-binary-exponent c = record { sfits = omega (arith, scale-length (scalable (lengthened c))) }
@@ -88,7 +94,7 @@ sub-binary-exponent : tie.Need-sub-binary-exponent
 sub-binary-exponent c = exponent-fit c
 
 error-bound-requires : tie.Need-error-bound-requires
-error-bound-requires c κs = let t = lengthened c .before in subst (BoundPre (start t .args .n)) (sym (x-is t)) (bound-ok (start t .pre))
+error-bound-requires c κs = let t = lengthened c .before in subst (BoundPre 48 (start t .args .n)) (sym (x-is t)) (bound-ok (lit≤ tt) (start t .pre))
 
 pub accepted-spec : {M : Type 1} → statement M
 accepted-spec = tie.close

@@ -8,12 +8,12 @@ use borrow.Author.Tests.{not-true, not-false}
 use Rattle.word.specs.Fits.{back}
 use Rattle.word.specs.Compare.{between}
 use Rattle.point.specs.Point.{gauss}
+use Rattle.point.specs.Limits.{inSteps, inParts, steps-say}
 use Rattle.answer.specs.declared.Answer.the-variants.{Answered}
 use Rattle.entries.specs.Table.{stepTable, reciprocalTable}
-use Rattle.logarithm.specs.Code.{figuresOf}
-use Rattle.point.specs.Limits.{inSteps, inParts, steps-say}
-use Rattle.logarithm.specs.Answer.{isZero, logAnswer, Close}
-use Rattle.logarithm.specs.Laws.{Accepted, refused-steps, refused-part, refused-zero, answered, log-answer-close}
+use Rattle.logarithm.specs.Answer.{isZero}
+use Rattle.logarithm.specs.Close.{Accepted, refused-steps, refused-part, refused-zero, answered, settled}
+use Rattle.logarithm.specs.Fits.{figuresOf}
 use Rattle.logarithm.proofs.log.Statement.{statement}
 use Rattle.logarithm.proofs.log.Tie as tie
 
@@ -40,41 +40,36 @@ is-between-requires : tie.Need-is-between-requires
 is-between-requires c κs = search needs
 
 returns : tie.Need-returns
-unfolding logAnswer inSteps
+unfolding inSteps
 returns c =
     let b = c .before in
-    let s = b .before in (
-      sym (refused-steps 48 stepTable reciprocalTable (s .args .n) (gauss (s .args .p))
-          (ap (between (pos 3) (pos 40)) (sym (back (s .fits .n))) ∙ (sym (b .is-between .ensures) ∙ not-true _ (c .if1 .taken)))),
-      tt,
-    )
+    let s = b .before in
+    let a = s .args in
+    settled (a .n) (a .p .x) (a .p .y) (refused-steps 48 stepTable reciprocalTable (a .n) (gauss (a .p))
+    (ap (between (pos 3) (pos 40)) (sym (back (s .fits .n))) ∙ (sym (b .is-between .ensures) ∙ not-true _ (c .if1 .taken))))
 
 is-in-box-requires : tie.Need-is-in-box-requires
 is-in-box-requires c κs = search needs
 
 returns-2 : tie.Need-returns-2
-unfolding logAnswer inParts
+unfolding inParts
 returns-2 c =
     let b = c .before in
-    let s = b .before .before .before in (
-      sym (refused-part 48 stepTable reciprocalTable (s .args .n) (gauss (s .args .p)) (counted (b .before))
-          (sym (b .is-in-box .ensures) ∙ not-true _ (c .if2 .taken))),
-      tt,
-    )
+    let a = b .before .before .before .args in
+    settled (a .n) (a .p .x) (a .p .y) (refused-part 48 stepTable reciprocalTable (a .n) (gauss (a .p)) (counted (b .before))
+    (sym (b .is-in-box .ensures) ∙ not-true _ (c .if2 .taken)))
 
 is-in-box-requires-2 : tie.Need-is-in-box-requires-2
 is-in-box-requires-2 c κs = search needs
 
 returns-3 : tie.Need-returns-3
-unfolding logAnswer isZero
+unfolding isZero
 returns-3 c =
     let b = c .before in
-    let a = b .before in
-    let s = a .before .before .before .before in (
-      sym (refused-zero 48 stepTable reciprocalTable (s .args .n) (gauss (s .args .p)) (counted (a .before .before)) (inside a)
-          (sym (b .is-in-box2 .ensures) ∙ c .if3 .taken)),
-      tt,
-    )
+    let e = b .before in
+    let a = e .before .before .before .before .args in
+    settled (a .n) (a .p .x) (a .p .y) (refused-zero 48 stepTable reciprocalTable (a .n) (gauss (a .p)) (counted (e .before .before)) (inside e)
+    (sym (b .is-in-box2 .ensures) ∙ c .if3 .taken))
 
 cast-accepted : tie.Need-cast-accepted
 cast-accepted c =
@@ -88,21 +83,12 @@ accepted-requires c κs =
     let h = steps-say 48 3 (s .args .n) (allowed c .steps) in
     subst (λ n. Accepted 48 n (gauss (s .args .p))) (h .whole ∙ ap (λ n. pos (natAbs n)) (sym (back (s .fits .n)))) (allowed c)
 
-made : (c : tie.After-accepted) → let s = c .before .before .before .before .before .before .before in Answered (c .accepted .result) ≡ logAnswer (s .args .n)
-    (s .args .p .x) (s .args .p .y)
-unfolding logAnswer
-made c =
-    let s = c .before .before .before .before .before .before .before in
-    ap Answered (c .accepted .ensures ∙ ap (λ n. figuresOf (natAbs n) (s .args .p)) (back (s .fits .n))) ∙ sym
-    (answered 48 stepTable reciprocalTable (s .args .n) (gauss (s .args .p)) (allowed (c .before)))
-
 returns-4 : tie.Need-returns-4
 returns-4 c =
     let s = c .before .before .before .before .before .before .before in
-    let n = s .args .n in
-    let p = s .args .p in
-    let e = made c in
-    (e, subst (Close n (p .x) (p .y)) (sym e) (log-answer-close n (p .x) (p .y)))
+    let a = s .args in
+    settled (a .n) (a .p .x) (a .p .y) (answered 48 stepTable reciprocalTable (a .n) (gauss (a .p)) (allowed (c .before))
+    ∙ sym (ap Answered (c .accepted .ensures ∙ ap (λ n. figuresOf (natAbs n) (a .p)) (back (s .fits .n)))))
 
 pub log-spec : {M : Type 1} → statement M
 log-spec = tie.close (tie.spec is-between-requires returns is-in-box-requires returns-2 is-in-box-requires-2 returns-3 cast-accepted accepted-requires returns-4)

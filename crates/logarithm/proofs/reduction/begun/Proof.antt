@@ -1,6 +1,7 @@
 -- `logarithm::reduction::begun` meets its contract: the cell that it finds is that of the definition, so the tables' promises speak of it.
 use mathlib.Core.Path.{_≡_, sym, _∙_, ap, ap₂, subst, subst₂}
 use Prim.Native.Nat.{_^_}
+use lib.Dec.{lit≤}
 use lib.IntN.{ℤ}
 use lib.Signed.{shrZ}
 use mir.Syntax.{w64}
@@ -15,11 +16,11 @@ use Rattle.point.specs.declared.Point.{Point}
 use Rattle.point.specs.Point.{gauss, point}
 use Rattle.entries.specs.Reciprocal.{reciprocal, centre, InTable}
 use Rattle.entries.specs.Table.{reciprocalTable}
+use Rattle.entries.specs.Promise48.{reciprocal-promise}
 use Rattle.entries.specs.Rows.{number}
 use Rattle.logarithm.specs.Scale.{scaled}
 use Rattle.logarithm.specs.Cell.{column, row, cellX, cellY, reciprocalOf, reduced}
-use Rattle.logarithm.specs.Code.{ReducePre}
-use Rattle.logarithm.specs.Steps.{in-cell, reduce-ok, log-parts}
+use Rattle.logarithm.specs.Fits.{ReducePre, in-cell, reduce-ok, log-parts}
 use Rattle.logarithm.proofs.reduction.begun.Statement.{statement}
 use Rattle.logarithm.proofs.reduction.begun.Tie as tie
 
@@ -46,7 +47,7 @@ module _ (c : tie.After-struct-told2) where
   row-is = cells-is (sfits-mag (found .y) (c .struct-told2 .given .1 .0 .1)) ∙ ap (λ (q : Point). shrZ (q .y) (2 ^ 44)) (c .before .before .scaled .ensures)
 
   cell : InTable (cells (found .x)) (cells (found .y))
-  cell = subst₂ InTable (sym column-is) (sym row-is) (in-cell (c .before .before .before .pre))
+  cell = subst₂ InTable (sym column-is) (sym row-is) (in-cell (lit≤ tt) (c .before .before .before .pre))
 
 reciprocal-is : (c : tie.After-reciprocal) → number (c .reciprocal .result) ≡ reciprocalOf 48 (p (c .before))
 reciprocal-is c = c .reciprocal .ensures .1 (cell (c .before)) ∙ ap₂ (λ i j. reciprocal (centre i) (centre j)) (column-is (c .before)) (row-is (c .before))
@@ -67,10 +68,10 @@ reduced-requires : tie.Need-reduced-requires
 reduced-requires c κs =
     let r = c .before in
     let s = r .before .before .before in
-    subst (λ q. ReducePre q (r .reciprocal .result)) (sym (s .scaled .ensures)) (reduce-ok (s .before .pre) (r .reciprocal .result) (reciprocal-is r))
+    subst (λ q. ReducePre 48 q (r .reciprocal .result)) (sym (s .scaled .ensures)) (reduce-ok (lit≤ tt) (s .before .pre) (r .reciprocal .result) (reciprocal-is r))
 
 negated-requires : tie.Need-negated-requires
-negated-requires c κs = let l = c .before in subst (λ z. Parts z (two 61)) (sym (log-is l)) (log-parts (l .before .before .before .before .before .pre))
+negated-requires c κs = let l = c .before in subst (λ z. Parts z (two 61)) (sym (log-is l)) (log-parts (lit≤ tt) (l .before .before .before .before .before .pre) (lit≤ tt) reciprocalTable reciprocal-promise)
 
 returns : tie.Need-returns
 unfolding reduced
@@ -80,7 +81,7 @@ returns c =
     let s = l .before .before .before .before in
     let e = r .reduced .ensures ∙ ap₂ (λ (z : 𝔾) (q : Point). point (floorᵍ (z *ᵍ gauss q) 64)) (reciprocal-is (l .before)) (s .scaled .ensures) in
     let f = c .negated .ensures ∙ ap (λ z. point (negᵍ z)) (log-is l) in
-    λ i. record { point = e i; answer = f i }
+    λ i. record { point = e i; sum = f i }
 
 pub begun-spec : {M : Type 1} → statement M
 begun-spec = tie.close (tie.spec scaled-requires reciprocal-requires reciprocal-log-requires reduced-requires negated-requires returns)

@@ -1,4 +1,5 @@
 -- `logarithm::reduction::reduced` meets its contract.
+use lib.Dec.{lit≤}
 use borrow.Author.Needs.{needs}
 use Rattle.algebra.specs.Gauss.{_*ᵍ_}
 use Rattle.algebra.specs.Parts.{floorᵍ}
@@ -8,7 +9,7 @@ use Rattle.logarithm.proofs.reduction.reduced.Statement.{statement}
 use Rattle.logarithm.proofs.reduction.reduced.Tie as tie
 
 abbrev facts : (c : tie.After-struct-told4) → let s = c .before .before .before .before in ReduceFits (s .args .p) (s .args .c)
-facts c = reduce-fits (c .before .before .before .before .pre)
+facts c = reduce-fits (lit≤ tt) (c .before .before .before .before .pre)
 
 mul-re : tie.Need-mul-re
 mul-re c = let f = facts c in search needs

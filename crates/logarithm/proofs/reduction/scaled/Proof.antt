@@ -1,5 +1,6 @@
 -- `logarithm::reduction::scaled` meets its contract.
 use native.Mathlib.Omega.{arith}
+use lib.Dec.{lit≤}
 use borrow.Author.Needs.{needs}
 use Rattle.word.specs.Fits.{back}
 use Rattle.word.specs.Shift.{shift-left}
@@ -37,13 +38,13 @@ shr-t16 c = omega (arith, scale-length (c .before .before .before .pre))
 returns : tie.Need-returns
 returns c =
     let s = c .before .before .before in
-    let f = scale-up (s .pre) (omega arith) in
+    let f = scale-up (s .pre) (lit≤ tt) (omega arith) in
     simp (shift-left, f .x, f .y) (f .made)
 
 returns-2 : tie.Need-returns-2
 returns-2 c =
     let s = c .before .before .before in
-    let f = scale-down (s .pre) (omega arith) in
+    let f = scale-down (s .pre) (lit≤ tt) (omega arith) in
     simp (back, f .x, f .y, f .over-x, f .over-y) (f .made)
 
 pub scaled-spec : {M : Type 1} → statement M
