@@ -1,28 +1,28 @@
 -- The P cases of 01 as one table, proved by one statement that ranges over it. The checker computes each case by the definitions alone.
 use mathlib.Core.Path.{_≡_, refl}
-use mathlib.Core.List.{List, [], _∷_, _++_}
-use Prim.Native.Nat.{ℕ, zero, suc, _+_, _^_}
+use mathlib.Core.List.{List, [], _∷_}
+use Prim.Native.Nat.{ℕ, _+_, _^_}
 use lib.IntN.{ℤ, pos, negℤ}
 use lib.ListN.{length}
 use Rattle.algebra.specs.Gauss.{𝔾, gi, ιᵍ, negᵍ, _+ᵍ_, _*ᵍ_}
 use Rattle.algebra.specs.Floor.{nearest}
 use Rattle.algebra.specs.Parts.{floorᵍ}
 use Rattle.word.specs.Compare.{between}
+use Rattle.point.specs.Point.{gauss}
 use Rattle.point.specs.Step.{quotient, step}
 use Rattle.point.specs.Limits.{inSteps, inBox, inParts}
 use Rattle.answer.specs.Record.{recordOf, refusal-in}
 use Rattle.entries.specs.Numbers48.{stepLogs}
 use Rattle.entries.specs.Reciprocal.{reciprocal}
-use Rattle.entries.specs.Table.{stepTable}
-use Rattle.exponential.specs.Select.{select as exp-select}
-use Rattle.exponential.specs.Run.{walk, residue, digit as exp-digit, run}
+use Rattle.entries.specs.Table.{stepTable, reciprocalTable}
+use Rattle.iteration.specs.declared.Mode.the-variants.{Exp, Log}
+use Rattle.iteration.specs.Select.{exp-select, cut-back, log-select}
+use Rattle.iteration.specs.State.{state, select, next, run, digits}
 use Rattle.exponential.specs.Answer.{inRectangle, answer, expAnswer}
 use Rattle.logarithm.specs.Quadrant.{turn-back, turns-back, quarters, turned, spelling, quadrant}
 use Rattle.logarithm.specs.Scale.{bits-from, bits, bit-length, binary-exponent, scaled}
 use Rattle.logarithm.specs.Cell.{column, row, reduced}
-use Rattle.logarithm.specs.Select.{cut, select as log-select}
-use Rattle.logarithm.specs.Run.{point-at, digit-at as log-digit, begun}
-use Rattle.logarithm.specs.Answer.{isZero, answerTo, logAnswer}
+use Rattle.logarithm.specs.Answer.{begun, isZero, answer as log-answer, logAnswer}
 
 -- ---- what a case says
 pub data Case : Type 0 where
@@ -92,17 +92,12 @@ cases =
     ∷ []
 
 -- ---- what it is for a case to hold
--- f 0, …, f (n − 1)
-abbrev opening : (ℕ → 𝔾) → ℕ → List 𝔾
-opening f zero = []
-opening f (suc n) = opening f n ++ (f n ∷ [])
-
 abbrev pub Holds : Case → Type 0
 Holds (exp-refusal n e s r) = refusal-in (recordOf (expAnswer n (e .re) (e .im) (s .re) (s .im))) ≡ r
 Holds (log-refusal n p r) = refusal-in (recordOf (logAnswer n (p .re) (p .im))) ≡ r
-Holds (exp-digits e ds) = opening (exp-digit 48 stepTable e) (length ds) ≡ ds
-Holds (log-digits p ds) = opening (log-digit 48 (begun 48 (turned p))) (length ds) ≡ ds
-Holds (exp-start e s n after) = run 48 stepTable e n s ≡ after
+Holds (exp-digits e ds) = digits 48 stepTable Exp 0 (length ds) (state nought e) ≡ ds
+Holds (log-digits p ds) = digits 48 stepTable Log 2 (length ds) (begun 48 reciprocalTable (turned p)) ≡ ds
+Holds (exp-start e s n after) = gauss (run 48 stepTable Exp 0 n (state s e) .point) ≡ after
 Holds (log-q p q) = quadrant p ≡ q
 Holds (log-k p k) = binary-exponent 48 (turned p) ≡ k
 Holds (seat X Y c) = reciprocal X Y ≡ c
@@ -113,7 +108,7 @@ All (c ∷ cs) = Holds c × All cs
 
 -- THE STATEMENT: every case of the table holds
 pub cases-hold : All cases
-unfolding recordOf expAnswer answer inSteps inRectangle inParts inBox between logAnswer answerTo isZero exp-digit residue exp-select stepTable stepLogs walk step quotient
+unfolding recordOf expAnswer answer inSteps inRectangle inParts inBox between logAnswer log-answer isZero digits run next select exp-select log-select cut-back stepTable stepLogs step quotient
     quadrant spelling quarters turned turns-back turn-back binary-exponent bit-length bits bits-from scaled reduced column row reciprocal nearest floorᵍ
-    log-digit point-at log-select cut ιᵍ negᵍ _+ᵍ_ _*ᵍ_
+    ιᵍ negᵍ _+ᵍ_ _*ᵍ_
 cases-hold = (refl, (refl, (refl, (refl, (refl, (refl, (refl, (refl, (refl, (refl, (refl, (refl, (refl, (refl, (refl, (refl, (refl, (refl, (refl, (refl, (refl, (refl, (refl, (refl, tt))))))))))))))))))))))))

@@ -9,7 +9,7 @@ use Rattle.point.specs.declared.Point.{Point}
 use Rattle.answer.specs.Record.{recordOf}
 use Rattle.exponential.specs.Answer.{answer, expAnswer}
 use Rattle.exponential.specs.Cases.{kernel-one}
-use Rattle.logarithm.specs.Answer.{isZero, answerTo, logAnswer}
+use Rattle.logarithm.specs.Answer.{isZero, answer as log-answer, logAnswer}
 use Rattle.text.specs.Decimal.{value, readNatural, readNumber}
 use Rattle.text.specs.Fields.{split, sameBytes}
 use Rattle.text.specs.Line.{EXP, REF, numbers, kindLine, lineOf, readLine}
@@ -55,7 +55,7 @@ unfolding readLine lineOf kindLine numbers readNumber readNatural value sameByte
 exp₃ = refl
 
 no-logarithm : recordOf (logAnswer (pos 40) (pos 0) (pos 0)) ≡ pos 4 ∷ pos 0 ∷ pos 0 ∷ pos 0 ∷ pos 0 ∷ pos 0 ∷ []
-unfolding recordOf logAnswer answerTo inSteps inParts inBox isZero between
+unfolding recordOf logAnswer log-answer inSteps inParts inBox isZero between
 no-logarithm = refl
 
 no-steps : recordOf (expAnswer (pos 0) (pos 0) (pos 0) (pos 0) (pos 0)) ≡ pos 1 ∷ pos 0 ∷ pos 0 ∷ pos 0 ∷ pos 0 ∷ pos 0 ∷ []

@@ -19,7 +19,7 @@ use Rattle.answer.specs.declared.Answer.{Answer}
 use Rattle.answer.specs.declared.Answer.the-variants.{Answered, Refused}
 use Rattle.answer.specs.Refusal.{refusalNumber, unless}
 use Rattle.exponential.specs.Answer.{answer, expAnswer}
-use Rattle.logarithm.specs.Answer.{answerTo, logAnswer}
+use Rattle.logarithm.specs.Answer.{answer as log-answer, logAnswer}
 use Rattle.scan.specs.Either.{either}
 use Rattle.text.specs.Decimal.{showNumber, readNumber}
 use Rattle.text.specs.Written.{short-range}
@@ -49,7 +49,7 @@ unfolding expAnswer answer inSteps
 short-exp n ex ey sx sy = short-steps 1 n _
 
 pub short-log : (n x y : ℤ) → ShortSteps n (logAnswer n x y)
-unfolding logAnswer answerTo inSteps
+unfolding logAnswer log-answer inSteps
 short-log n x y = short-steps 3 n _
 
 -- ---- no refusal's number is 0
