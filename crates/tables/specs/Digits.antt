@@ -1,6 +1,6 @@
 -- A digit's part in code: its place in a row is one more than it. No branch is made on it, which a digit would mispredict.
 use mathlib.Core.Path.{_≡_, refl}
-use mathlib.Core.Bool.{true, false}
+use mathlib.Core.Bool.{true, false, cond}
 use mathlib.Core.List.{List}
 use Prim.Native.Nat.{ℕ, zero, suc, _<_}
 use native.Mathlib.Nat.{not-suc-le-zero, le-of-suc-le-suc}
@@ -8,11 +8,13 @@ use native.Mathlib.Omega.{arith}
 use lib.Dec.{lit<, leb→le}
 use lib.IntN.{ℤ, pos, negsuc, natAbs, _+ℤ_}
 use lib.ListN.{getD}
+use lib.Signed.{ltZ}
 use mir.Syntax.{w64}
 use mir.Val.{SFits, toZ, ofZ}
 use Rattle.algebra.specs.Order.{pos-inj-le}
 use Rattle.word.specs.Compare.{between, between-true, fails}
 use Rattle.point.specs.Digit.{Trit, t-, t0, t+}
+use Rattle.entries.specs.declared.Entry.{Entry}
 use Rattle.entries.specs.Listed.{byDigit}
 
 abbrev pub place : ℤ → ℕ
@@ -33,10 +35,15 @@ place-word t- = refl
 place-word t0 = refl
 place-word t+ = refl
 
-pub by-place : {A : Type 0} (l : List A) (o : A) {d : ℤ} → Trit d → getD l (place d) o ≡ byDigit l o d
-by-place l o t- = refl
-by-place l o t0 = refl
-by-place l o t+ = refl
+-- the one of three that a sign names
+abbrev pub bySign : ℤ → ℤ → ℤ → ℤ → ℤ
+bySign d minus nought plus = cond (ltZ d (pos 0)) minus (cond (ltZ (pos 0) d) plus nought)
+
+pub by-sign : (l : List Entry) (o : Entry) {d : ℤ} → Trit d →
+    record { re = bySign d (getD l 0 o .re) (getD l 1 o .re) (getD l 2 o .re); im = bySign d (getD l 0 o .im) (getD l 1 o .im) (getD l 2 o .im) } ≡ byDigit l o d
+by-sign l o t- = refl
+by-sign l o t0 = refl
+by-sign l o t+ = refl
 
 -- the code's test of a digit's part
 pub trit-of : (d : ℤ) → between (negsuc 0) (pos 1) d ≡ true → Trit d
