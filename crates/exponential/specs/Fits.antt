@@ -31,6 +31,7 @@ use Rattle.exponential.specs.Answer.{errorBound}
 module _ (F : ℕ) (wide : 16 ≤ F) (narrow : F ≤ 48) (t : StepTable) (promise : StepPromise F (F - 8) t) where
   pub run-fits : (n : ℕ) (e s : 𝔾) → n ≤ F - 8 → Rectangle F e → Parts s (two (F + 10)) → Fits F t Exp 0 n (state s e)
   run-fits n e s h rect given = record {
+    least = omega arith;
     most = omega arith;
     small = λ j l. record {
       point = parts-cancel (pos 280) (record { le = tt }) (parts-weaken (exact-size (exact-run F t Exp 0 j j (state s e) (omega arith) exact-start) given)

@@ -50,8 +50,9 @@ pub record StepPre (s : State) (d : Digit) (row : List Entry) (n : ℕ) : Type 0
 abbrev pub stepOf : State → Digit → List Entry → ℕ → State
 stepOf s d row n = state (step n (gaussᵈ d) (gauss (s .point))) (gauss (s .sum) -ᵍ number (byDigit row no-entry (d .dy)))
 
--- every state on the way is small
+-- every state on the way from after step `from` to after step n is small
 pub record Fits (F : ℕ) (t : StepTable) (mode : Mode) (from n : ℕ) (x : State) : Type 0 where
+  pub least : from ≤ n
   pub most : n + 8 ≤ F
   pub small : (j : ℕ) → j ≤ n - from → Small (run F t mode from j x)
 
@@ -144,7 +145,7 @@ module _ {F : ℕ} {t : StepTable} {mode : Mode} {k n : ℕ} {x : State} (f : Fi
 
     pub onward : Fits F t mode (suc k) n (moved F t mode (suc k) x)
     unfolding run
-    onward = record { most = f .most; small = λ j l. f .small (suc j) (omega (arith, left-is)) }
+    onward = record { least = h; most = f .most; small = λ j l. f .small (suc j) (omega (arith, left-is)) }
 
     pub run-more : run F t mode k (n - k) x ≡ run F t mode (suc k) (n - suc k) (moved F t mode (suc k) x)
     unfolding run

@@ -286,6 +286,7 @@ module _ {F : ℕ} (wide : 11 ≤ F) {n : ℕ} {p : Point} (a : Accepted F (pos 
   -- the steps
   pub run-ok : F ≤ 48 → (steps : StepTable) (logs : ReciprocalTable) → StepPromise F (F - 8) steps → ReciprocalPromise F logs → Fits F steps Log 2 n (begun F logs (turned (gauss p)))
   run-ok narrow steps logs entries reciprocals = record {
+    least = omega (arith, count .at-least);
     most = omega (arith, count .at-most);
     small = λ j h. record {
       point = parts-weaken (point-size F (2 + j) _ (converging-run F steps _ (begun-converging F (omega arith) logs v (cone F wide a)) (2 + j) j (omega arith) (omega (arith, count .at-most, count .at-least))))

@@ -1,18 +1,18 @@
 -- A digit's part in code: its place in a row is one more than it. No branch is made on it, which a digit would mispredict.
 use mathlib.Core.Path.{_≡_, refl}
-use mathlib.Core.Bool.{true, false, cond}
+use mathlib.Core.Bool.{true, false}
 use mathlib.Core.List.{List}
 use Prim.Native.Nat.{ℕ, zero, suc, _<_}
 use native.Mathlib.Nat.{not-suc-le-zero, le-of-suc-le-suc}
 use native.Mathlib.Omega.{arith}
-use lib.Dec.{lit<, leb→le}
+use lib.Dec.{lit<, leb→le, ltb→lt}
 use lib.IntN.{ℤ, pos, negsuc, natAbs, _+ℤ_}
 use lib.ListN.{getD}
 use lib.Signed.{ltZ}
 use mir.Syntax.{w64}
 use mir.Val.{SFits, toZ, ofZ}
 use Rattle.algebra.specs.Order.{pos-inj-le}
-use Rattle.word.specs.Compare.{between, between-true, fails}
+use Rattle.word.specs.Compare.{between, between-true, holds, fails}
 use Rattle.point.specs.Digit.{Trit, t-, t0, t+}
 use Rattle.entries.specs.declared.Entry.{Entry}
 use Rattle.entries.specs.Listed.{byDigit}
@@ -37,7 +37,18 @@ place-word t+ = refl
 
 -- the one of three that a sign names
 abbrev pub bySign : ℤ → ℤ → ℤ → ℤ → ℤ
-bySign d minus nought plus = cond (ltZ d (pos 0)) minus (cond (ltZ (pos 0) d) plus nought)
+bySign (negsuc n) minus nought plus = minus
+bySign (pos zero) minus nought plus = nought
+bySign (pos (suc n)) minus nought plus = plus
+
+pub sign-minus : (d minus nought plus : ℤ) → ltZ d (pos 0) ≡ true → minus ≡ bySign d minus nought plus
+sign-minus (negsuc n) minus nought plus e = refl
+sign-minus (pos n) minus nought plus e = absurd (not-suc-le-zero (ltb→lt n 0 (holds e)))
+
+pub sign-plus : (d minus nought plus : ℤ) → ltZ d (pos 0) ≡ false → (d ≡ pos 0 → ⊥) → plus ≡ bySign d minus nought plus
+sign-plus (negsuc n) minus nought plus e h = absurd (fails e)
+sign-plus (pos zero) minus nought plus e h = absurd (h refl)
+sign-plus (pos (suc n)) minus nought plus e h = refl
 
 pub by-sign : (l : List Entry) (o : Entry) {d : ℤ} → Trit d →
     record { re = bySign d (getD l 0 o .re) (getD l 1 o .re) (getD l 2 o .re); im = bySign d (getD l 0 o .im) (getD l 1 o .im) (getD l 2 o .im) } ≡ byDigit l o d

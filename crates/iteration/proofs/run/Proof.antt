@@ -1,44 +1,58 @@
--- `iteration::run` meets its contract. The invariant: every state from here on is small, and the steps that are left lead where all lead.
-use mathlib.Core.Path.{_≡_, refl, sym, _∙_, ap, subst}
-use Prim.Native.Nat.{suc, _-_}
-use native.Mathlib.Numerals.{add-one}
+-- `iteration::run` meets its contract. The invariant before step k: every state from here on is small, and the steps from k on lead where all
+-- lead.
+use mathlib.Core.Path.{_≡_, refl, sym, _∙_, ap, subst, subst₂}
+use Prim.Native.Nat.{ℕ, suc, _+_, _-_, _≤_}
 use native.Mathlib.Omega.{arith}
 use Rattle.word.specs.Fits.{back, sfits-mag}
 use Rattle.point.specs.Point.{digit}
 use Rattle.entries.specs.Table.{stepTable}
 use Rattle.entries.specs.Rows.{stepRow}
+use Rattle.iteration.specs.declared.State.{State}
+use Rattle.iteration.specs.declared.Mode.{Mode}
 use Rattle.iteration.specs.State.{select, run}
 use Rattle.iteration.specs.Fits.{Fits, StepPre, stepOf, here, onward, run-more, step-is, step-ok}
 use Rattle.iteration.proofs.run.Statement.{statement}
 use Rattle.iteration.proofs.run.Tie as tie
 
+-- after step j
+abbrev Left : Mode → ℕ → State → State → ℕ → Type 0
+Left mode n end s j = Fits 48 stepTable mode j n s × (run 48 stepTable mode j (n - j) s ≡ end)
+
 abbrev Inv-loop : tie.InvT-loop
-Inv-loop mode from n s₀ k₀ s k = Fits 48 stepTable mode k n s × (run 48 stepTable mode k (n - k) s ≡ run 48 stepTable mode from (n - from) s₀)
+Inv-loop mode from n s₀ k₀ s k = (1 ≤ k) × Left mode n (run 48 stepTable mode from (n - from) s₀) s (k - 1)
 
 abbrev μ-loop : tie.MeasureT-loop
-μ-loop mode from n s₀ k₀ s k = n - k
+μ-loop mode from n s₀ k₀ s k = suc n - k
+
+-- k is one more than the steps taken
+counted : {k : ℕ} → 1 ≤ k → suc (k - 1) ≡ k
+counted h = omega arith
 
 -- the digit of the step, and its row
 chosen : (c : tie.After-select Inv-loop μ-loop) → let l = c .before .before in
-    c .select .result ≡ digit (select 48 (l .before .args .mode) (suc (l .loop .k)) (l .loop .s))
-chosen c = let l = c .before .before in c .select .ensures ∙ ap (λ k. digit (select 48 (l .before .args .mode) k (l .loop .s))) (add-one (l .loop .k))
+    c .select .result ≡ digit (select 48 (l .before .args .mode) (suc (l .loop .k - 1)) (l .loop .s))
+chosen c = let l = c .before .before in c .select .ensures ∙ ap (λ k. digit (select 48 (l .before .args .mode) k (l .loop .s))) (sym (counted (l .loop .inv .0)))
 
 found : (c : tie.After-row Inv-loop μ-loop) → let s = c .before .before in
-    c .row .result ≡ stepRow (suc (s .before .before .loop .k)) (s .select .result .dx)
+    c .row .result ≡ stepRow (suc (s .before .before .loop .k - 1)) (s .select .result .dx)
 found c =
     let t = c .before in
     let s = t .before in
+    let l = s .before .before in
     let dx = back (sfits-mag (s .select .result .dx) (t .struct-told .given .0 .1)) in
-    c .row .ensures .0 ∙ (λ i. stepRow (add-one (s .before .before .loop .k) i) (dx i))
-
-loop-holds : tie.Need-loop-holds Inv-loop μ-loop
-loop-holds c = (c .pre, refl)
+    c .row .ensures .0 ∙ (λ i. stepRow (sym (counted (l .loop .inv .0)) i) (dx i))
 
 add-k : tie.Need-add-k Inv-loop μ-loop
-add-k c = omega arith
+add-k c = omega (arith, c .pre .least, c .pre .most)
+
+loop-holds : tie.Need-loop-holds Inv-loop μ-loop
+loop-holds c =
+    let a = c .args in
+    let same : a .from ≡ a .from + 1 - 1 = omega arith in
+    (omega arith, subst (Left (a .mode) (a .n) (run 48 stepTable (a .mode) (a .from) (a .n - a .from) (a .start)) (a .start)) same (c .pre, refl))
 
 select-requires : tie.Need-select-requires Inv-loop μ-loop
-select-requires c κs = let l = c .before in (omega (arith, l .loop .inv .0 .most), here (l .loop .inv .0))
+select-requires c κs = let l = c .before in (omega (arith, l .loop .inv .1 .0 .most), here (l .loop .inv .1 .0))
 
 row-requires : tie.Need-row-requires Inv-loop μ-loop
 row-requires c κs = tt
@@ -47,7 +61,12 @@ step-requires : tie.Need-step-requires Inv-loop μ-loop
 step-requires c κs =
     let s = c .before .before in
     let l = s .before .before in
-    subst (StepPre (l .loop .s) (s .select .result) (c .row .result)) (sym (add-one (l .loop .k))) (step-ok (l .before .args .mode) (l .loop .k) (l .loop .s) (chosen s) (found c) (l .loop .inv .0) (omega arith))
+    let k = l .loop .k in
+    subst (StepPre (l .loop .s) (s .select .result) (c .row .result)) (counted (l .loop .inv .0))
+    (step-ok (l .before .args .mode) (k - 1) (l .loop .s) (chosen s) (found c) (l .loop .inv .1 .0) (omega arith))
+
+add-k-2 : tie.Need-add-k-2 Inv-loop μ-loop
+add-k-2 c = let l = c .before .before .before .before .before in omega (arith, l .loop .inv .1 .0 .most)
 
 loop-less : tie.Need-loop-less Inv-loop μ-loop
 loop-less c = omega arith
@@ -58,18 +77,21 @@ loop-again c =
     let s = r .before .before in
     let l = s .before .before in
     let a = l .before .args in
-    let i = l .loop .inv in
-    let one = add-one (l .loop .k) in
-    let made = c .step .ensures ∙ (ap (stepOf (l .loop .s) (s .select .result) (r .row .result)) one ∙ step-is (a .mode) (l .loop .k) (l .loop .s) (chosen s) (found r)) in
-    rw (one, made) (onward (i .0) (omega arith), sym (run-more (i .0) (omega arith)) ∙ i .1)
+    let k = l .loop .k in
+    let f = l .loop .inv .1 .0 in
+    let made = c .step .ensures ∙ (ap (stepOf (l .loop .s) (s .select .result) (r .row .result)) (sym (counted (l .loop .inv .0)))
+    ∙ step-is (a .mode) (k - 1) (l .loop .s) (chosen s) (found r)) in
+    let same : suc (k - 1) ≡ k + 1 - 1 = omega (arith, l .loop .inv .0) in
+    (omega arith, subst₂ (Left (a .mode) (a .n) (run 48 stepTable (a .mode) (a .from) (a .n - a .from) (a .start))) (sym made) same
+    (onward f (omega (arith, l .loop .inv .0)), sym (run-more f (omega (arith, l .loop .inv .0))) ∙ l .loop .inv .1 .1))
 
 returns : tie.Need-returns Inv-loop μ-loop
 unfolding run
 returns c =
     let l = c .before in
     let a = l .before .args in
-    let none : 0 ≡ a .n - l .loop .k = omega arith in
-    ap (λ m. run 48 stepTable (a .mode) (l .loop .k) m (l .loop .s)) none ∙ l .loop .inv .1
+    let none : 0 ≡ a .n - (l .loop .k - 1) = omega (arith, l .loop .inv .0) in
+    ap (λ m. run 48 stepTable (a .mode) (l .loop .k - 1) m (l .loop .s)) none ∙ l .loop .inv .1 .1
 
 pub run-spec : {M : Type 1} → statement M
 run-spec =
@@ -77,11 +99,12 @@ run-spec =
     (tie.spec
     Inv-loop
     μ-loop
-    loop-holds
     add-k
+    loop-holds
     select-requires
     row-requires
     step-requires
+    add-k-2
     loop-less
     loop-again
     returns)
