@@ -30,45 +30,33 @@ use Rattle.logarithm.specs.Answer.{begun}
 pub one-halves : (F n : ℕ) → suc n ≤ F → two F ≡ pos 2 *ℤ two n *ℤ half F n
 one-halves F n h = sym (two-whole (suc n) F h) ∙ ap (λ t. t *ℤ half F n) (two-suc n)
 
-pub half-halve : (F n : ℕ) → suc (suc n) ≤ F → half F n ≡ pos 2 *ℤ half F (suc n)
+half-halve : (F n : ℕ) → suc (suc n) ≤ F → half F n ≡ pos 2 *ℤ half F (suc n)
 half-halve F n h = two-halve F (suc n) h
 
 -- at least 2^k
 pub half-large : (F n k : ℕ) → n + suc k ≤ F → two k ⩽ half F n
 half-large F n k h = two-mono k (F - suc n) (omega arith)
 
--- ---- one step: 2^n u' = 2^n (u + d/2^n) + d u and what the step is off
-module _ (F n : ℕ) (fits : suc (suc n) ≤ F) (v : 𝔾) (b : ℤ) where
-  X : ℤ
-  X = two n
+-- ---- one step: 2^n u' = 2^n (u + d/2^n) + d u and what the step is off. X is 2^n, and one is 2·2^n·t
+shape : (X t v v′ d one : 𝔾) → one ≡ ιᵍ (pos 2) *ᵍ X *ᵍ t →
+    X *ᵍ (v -ᵍ one +ᵍ ιᵍ (pos 2) *ᵍ t *ᵍ d) +ᵍ d *ᵍ (v -ᵍ one) +ᵍ (X *ᵍ v′ -ᵍ (X +ᵍ d) *ᵍ v) ≡ X *ᵍ (v′ -ᵍ one)
+shape X t v v′ d one e = ring! 𝔾R (X ∷ t ∷ v ∷ v′ ∷ d ∷ one ∷ []) (search reifyᵍ depth 20) tt
+    ∙ ap (λ o. X *ᵍ (v′ -ᵍ one) +ᵍ d *ᵍ (o -ᵍ one)) (sym e)
+    ∙ ring! 𝔾R (X ∷ v′ ∷ d ∷ one ∷ []) (search reifyᵍ depth 20) tt
 
-  t : ℤ
-  t = half F n
+-- from b, at most 3/2 of 1/2^n, u comes to at most 3/4 of it, where there is room for 2 b and the rounding
+one-step : (F n : ℕ) → suc (suc n) ≤ F → (v : 𝔾) (b : ℤ) → b ⩽ pos 3 *ℤ half F n → b +ℤ b +ℤ two n ⩽ two n *ℤ half F (suc n) → Parts (v -ᵍ twoᵍ F) b →
+    Parts (step n (log-select F n v) v -ᵍ twoᵍ F) (pos 3 *ℤ half F (suc n))
+one-step F n fits v b l room h = parts-cancel (two n) (two≥1 n) (parts-weaken
+    (subst (λ z. Parts z (two n *ℤ half F n +ℤ (b +ℤ b) +ℤ two n)) (shape (twoᵍ n) (ιᵍ (half F n)) v (step n d v) d (twoᵍ F) one-is)
+    (parts-add (parts-add (parts-scale (two n) (nonneg-pos (2 ^ n)) (log-near F n v (parts-weaken h l))) (parts-digit (digit-parts (log-digit F n v)) h)) (step-error n d v)))
+    (lin (b ∷ two n ∷ half F n ∷ half F (suc n) ∷ []) (room & ap (λ x. two n *ℤ x) (half-halve F n fits) &≡ none) (search reify depth 20) tt))
+  where
+    d : 𝔾
+    d = log-select F n v
 
-  one : 𝔾
-  one = twoᵍ F
-
-  d : 𝔾
-  d = log-select F n v
-
-  v′ : 𝔾
-  v′ = step n d v
-
-  one-is : one ≡ ιᵍ (pos 2) *ᵍ ιᵍ X *ᵍ ιᵍ t
-  unfolding one X t
-  one-is = ap ιᵍ (one-halves F n (omega arith)) ∙ g-ι-mul (pos 2 *ℤ X) t ∙ ap (λ z. z *ᵍ ιᵍ t) (g-ι-mul (pos 2) X)
-
-  shape : ιᵍ X *ᵍ (v -ᵍ one +ᵍ ιᵍ (pos 2) *ᵍ ιᵍ t *ᵍ d) +ᵍ d *ᵍ (v -ᵍ one) +ᵍ (ιᵍ X *ᵍ v′ -ᵍ (ιᵍ X +ᵍ d) *ᵍ v) ≡ ιᵍ X *ᵍ (v′ -ᵍ one)
-  shape = subst (λ o. ιᵍ X *ᵍ (v -ᵍ o +ᵍ ιᵍ (pos 2) *ᵍ ιᵍ t *ᵍ d) +ᵍ d *ᵍ (v -ᵍ o) +ᵍ (ιᵍ X *ᵍ v′ -ᵍ (ιᵍ X +ᵍ d) *ᵍ v) ≡ ιᵍ X *ᵍ (v′ -ᵍ o)) (sym one-is)
-      (ring! 𝔾R (ιᵍ X ∷ ιᵍ t ∷ v ∷ v′ ∷ d ∷ []) (search reifyᵍ depth 20) tt)
-
-  -- from b, at most 3/2 of 1/2^n, u comes to at most 3/4 of it where the step leaves room for 2 b and the rounding
-  one-step : b ⩽ pos 3 *ℤ half F n → b +ℤ b +ℤ two n ⩽ two n *ℤ half F (suc n) → Parts (v -ᵍ twoᵍ F) b →
-      Parts (step n (log-select F n v) v -ᵍ twoᵍ F) (pos 3 *ℤ half F (suc n))
-  unfolding X t one d v′
-  one-step l room h = parts-cancel (two n) (two≥1 n) (parts-weaken (subst (λ z. Parts z (X *ℤ t +ℤ (b +ℤ b) +ℤ X)) shape
-      (parts-add (parts-add (parts-scale X (nonneg-pos (2 ^ n)) (log-near F n v (parts-weaken h l))) (parts-digit (digit-parts (log-digit F n v)) h)) (step-error n d v)))
-      (lin (b ∷ two n ∷ half F n ∷ half F (suc n) ∷ []) (room & ap (λ x. two n *ℤ x) (half-halve F n fits) &≡ none) (search reify depth 20) tt))
+    one-is : twoᵍ F ≡ ιᵍ (pos 2) *ᵍ twoᵍ n *ᵍ ιᵍ (half F n)
+    one-is = ap ιᵍ (one-halves F n (omega arith)) ∙ g-ι-mul (pos 2 *ℤ two n) (half F n) ∙ ap (λ z. z *ᵍ ιᵍ (half F n)) (g-ι-mul (pos 2) (two n))
 
 -- ---- THE POINT after step n, from 2 on
 pub record Converging (F n : ℕ) (x : State) : Type 0 where
@@ -78,9 +66,9 @@ pub record Converging (F n : ℕ) (x : State) : Type 0 where
 
 module _ (F : ℕ) (t : StepTable) where
   -- step 3: with s for 1/64, half of 1/8 is 4 s and u at most 7 s
-  first : 11 ≤ F → (x : State) → Converging F 2 x → Parts (gauss (moved F t Log 3 x .point) -ᵍ twoᵍ F) (pos 3 *ℤ half F 4)
+  third : 11 ≤ F → (x : State) → Converging F 2 x → Parts (gauss (moved F t Log 3 x .point) -ᵍ twoᵍ F) (pos 3 *ℤ half F 4)
   unfolding next select
-  first w x c = one-step F 3 (omega arith) (gauss (x .point)) (pos 7 *ℤ s)
+  third w x c = one-step F 3 (omega arith) (gauss (x .point)) (pos 7 *ℤ s)
       (lin (s ∷ half F 3 ∷ half F 4 ∷ []) (half-halve F 3 (omega arith) &≡ t₄ &≡ nonneg-pos (2 ^ (F - 6)) & none) (search reify depth 20) tt)
       (lin (s ∷ half F 4 ∷ []) (t₄ &≡ half-large F 5 2 (omega arith) & none) (search reify depth 20) tt)
       (parts-cancel (pos 64) (record { le = tt }) (parts-weaken (c .near) (lin (two F ∷ s ∷ []) (one-halves F 5 (omega arith) &≡ none) (search reify depth 20) tt)))
@@ -103,19 +91,19 @@ module _ (F : ℕ) (t : StepTable) where
       large : two 2 ⩽ half F (suc n)
       large = half-large F (suc n) 2 (omega arith)
 
-  either : (n : ℕ) (x : State) → suc n + 8 ≤ F → Converging F n x → Parts (gauss (moved F t Log (suc n) x .point) -ᵍ twoᵍ F) (pos 3 *ℤ half F (suc (suc n)))
-  either zero x h c = absurd (omega (arith, c .least))
-  either (suc zero) x h c = absurd (omega (arith, c .least))
-  either (suc (suc zero)) x h c = first (omega arith) x c
-  either (suc (suc (suc n))) x h c = later (suc (suc (suc (suc n)))) (omega arith) (omega arith) x (c .left (omega arith))
+  left-next : (n : ℕ) (x : State) → suc n + 8 ≤ F → Converging F n x → Parts (gauss (moved F t Log (suc n) x .point) -ᵍ twoᵍ F) (pos 3 *ℤ half F (suc (suc n)))
+  left-next zero x h c = absurd (omega (arith, c .least))
+  left-next (suc zero) x h c = absurd (omega (arith, c .least))
+  left-next (suc (suc zero)) x h c = third (omega arith) x c
+  left-next (suc (suc (suc n))) x h c = later (suc (suc (suc (suc n)))) (omega arith) (omega arith) x (c .left (omega arith))
 
-  pub converging-next : (n : ℕ) (x : State) → suc n + 8 ≤ F → Converging F n x → Converging F (suc n) (moved F t Log (suc n) x)
+  converging-next : (n : ℕ) (x : State) → suc n + 8 ≤ F → Converging F n x → Converging F (suc n) (moved F t Log (suc n) x)
   converging-next n x h c = record {
     least = omega (arith, c .least);
-    near = parts-weaken (parts-scale (pos 64) (nonneg-pos 64) (either n x h c)) (lin (two F ∷ two (suc (suc n)) ∷ half F (suc (suc n)) ∷ [])
+    near = parts-weaken (parts-scale (pos 64) (nonneg-pos 64) (left-next n x h c)) (lin (two F ∷ two (suc (suc n)) ∷ half F (suc (suc n)) ∷ [])
         (one-halves F (suc (suc n)) (omega arith) &≡ nonneg-mul (nonneg-pos (2 ^ (F - suc (suc (suc n))))) (sub-nonneg (two-mono 4 (suc (suc n)) (omega (arith, c .least))))
         & nonneg-pos (2 ^ (F - suc (suc (suc n)))) & none) (search reify depth 20) tt);
-    left = λ _. either n x h c;
+    left = λ _. left-next n x h c;
   }
 
   -- after the steps 3 to n

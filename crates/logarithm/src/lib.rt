@@ -26,7 +26,7 @@ fn error_bound(n: usize, m: i64) -> i64
 
 // ---- the whole
 
-// Of a point that meets no refusal: the steps are those of the iteration's mode Log, from 3 on.
+// Of a point that meets no refusal. The steps are 3 to n of the iteration's mode Log.
 fn accepted(n: usize, p: Point) -> Figures
     requires { ⌜ Accepted 48 (pos n) (gauss p) ⌝ }
     ensures { λ r. ⌜ r ≡ figuresOf n p ⌝ }

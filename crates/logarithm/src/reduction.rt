@@ -131,7 +131,7 @@ fn negated(t: Entry) -> Point
     Point { x: -re, y: -im }
 }
 
-// The turned point scaled and brought near one, and minus the logarithm of the reciprocal; a cell is 2^44 units wide.
+// What the steps start from: the turned point scaled and brought near one, and minus the logarithm of the reciprocal. A cell is 2^44 units wide.
 pub fn begun(w: Point, b: usize) -> State
     requires { ⌜ ScalePre 48 w b ⌝ }
     ensures { λ r. ⌜ r ≡ begun 48 reciprocalTable (gauss w) ⌝ }

@@ -81,9 +81,11 @@ loop-again c =
     let f = l .loop .inv .1 .0 in
     let made = c .step .ensures ∙ (ap (stepOf (l .loop .s) (s .select .result) (r .row .result)) (sym (counted (l .loop .inv .0)))
     ∙ step-is (a .mode) (k - 1) (l .loop .s) (chosen s) (found r)) in
-    let same : suc (k - 1) ≡ k + 1 - 1 = omega (arith, l .loop .inv .0) in
-    (omega arith, subst₂ (Left (a .mode) (a .n) (run 48 stepTable (a .mode) (a .from) (a .n - a .from) (a .start))) (sym made) same
-    (onward f (omega (arith, l .loop .inv .0)), sym (run-more f (omega (arith, l .loop .inv .0))) ∙ l .loop .inv .1 .1))
+    let same : suc (k - 1) ≡ k + 1 - 1 = omega (arith, l .loop .inv .0) in (
+      omega arith,
+      subst₂ (Left (a .mode) (a .n) (run 48 stepTable (a .mode) (a .from) (a .n - a .from) (a .start))) (sym made) same
+          (onward f (omega (arith, l .loop .inv .0)), sym (run-more f (omega (arith, l .loop .inv .0))) ∙ l .loop .inv .1 .1),
+    )
 
 returns : tie.Need-returns Inv-loop μ-loop
 unfolding run
