@@ -3,25 +3,23 @@ use mathlib.Core.Path.{_≡_, _∙_, ap}
 use mathlib.Core.List.{[], _∷_}
 use Prim.Native.Nat.{ℕ, _+_, _-_, _^_, _≤_}
 use native.Mathlib.Omega.{arith}
-use lib.IntN.{ℤ, pos, negsuc, negℤ, _+ℤ_, _-ℤ_, _*ℤ_}
+use lib.IntN.{ℤ, pos, negsuc, _+ℤ_, _-ℤ_, _*ℤ_, +ℤ-comm}
 use lib.Signed.{shrZ}
 use mir.Syntax.{w64}
 use mir.Val.{SFits}
-use Rattle.algebra.specs.Integer.{ℤR}
-use Rattle.algebra.specs.Reify.{ring!, reify}
+use Rattle.algebra.specs.Reify.{reify}
 use Rattle.algebra.specs.Gauss.{𝔾}
-use Rattle.algebra.specs.Order.{_⩽_, nonneg-pos}
+use Rattle.algebra.specs.Order.{nonneg-pos}
 use Rattle.algebra.specs.Linear.{lin, _&_, _&ℕ_, none}
 use Rattle.algebra.specs.Power.{two, two-mono}
 use Rattle.algebra.specs.Floor.{ceiling}
 use Rattle.algebra.specs.Larger.{larger, larger-parts, larger-le}
 use Rattle.algebra.specs.Parts.{Size, Parts, parts-weaken, parts-cancel, size-add, size-neg, size-sign}
 use Rattle.word.specs.Fits.{sfits-size}
-use Rattle.word.specs.Shift.{size-shift}
-use Rattle.point.specs.Point.{gauss}
+use Rattle.word.specs.Shift.{CeilingFits, ceiling-fits}
 use Rattle.entries.specs.Promise.{StepTable, StepPromise}
 use Rattle.iteration.specs.declared.Mode.the-variants.{Exp}
-use Rattle.iteration.specs.State.{state, run}
+use Rattle.iteration.specs.State.{state}
 use Rattle.iteration.specs.Drift.{rounding-share, exact-start, exact-run, exact-size}
 use Rattle.iteration.specs.Fits.{Fits}
 use Rattle.exponential.specs.Convergence.{Rectangle, below-parts, converges}
@@ -43,44 +41,28 @@ module _ (F : ℕ) (wide : 16 ≤ F) (narrow : F ≤ 48) (t : StepTable) (promis
       few : (j : ℕ) → j ≤ n - 0 → j ≤ 40
       few j l = omega arith
 
--- ---- the error bound, M being m: a ceiling is a floor below zero
+-- ---- the error bound, M being m
 pub record BoundFits (n : ℕ) (m : ℤ) : Type 0 where
-  pub larger : SFits w64 m
-  pub eight : SFits w64 (negsuc 7 *ℤ m)
-  pub down : SFits w64 (shrZ (negsuc 7 *ℤ m) (2 ^ n))
+  pub up : CeilingFits (negsuc 7) m (pos 8 *ℤ two 58) n
   pub share : SFits w64 (rounding-share *ℤ pos n)
   pub bound : SFits w64 (rounding-share *ℤ pos n -ℤ shrZ (negsuc 7 *ℤ m) (2 ^ n))
 
 pub bound-fits : (F n : ℕ) {s : 𝔾} → F ≤ 48 → n ≤ F - 8 → Parts s (two (F + 10)) → BoundFits n (larger s)
-bound-fits F n {s} narrow h given = record {
-  larger = sfits-size {b = two 58} (record { lo = lin (m ∷ []) (sign & none) (search reify depth 20) tt; hi = larger-le g }) tt;
-  eight = sfits-size eight tt;
-  down = sfits-size (size-shift (2 ^ n) eight) tt;
-  share = sfits-size share tt;
-  bound = sfits-size (size-add share (size-neg (size-shift (2 ^ n) eight))) tt;
-}
+bound-fits F n {s} narrow h given = record { up = up; share = sfits-size share tt; bound = sfits-size (size-add share (size-neg (up .size))) tt }
   where
-    m : ℤ
-    m = larger s
-
-    g : Parts s (two 58)
-    g = parts-weaken given (two-mono (F + 10) 58 (omega arith))
+    up : CeilingFits (negsuc 7) (larger s) (pos 8 *ℤ two 58) n
+    up = ceiling-fits {c = negsuc 7} {a = pos 8} {b = two 58} n (record { lo = record { le = tt }; hi = record { le = tt } })
+        (record {
+          lo = lin (larger s ∷ []) (size-sign (larger-parts s .re) & none) (search reify depth 20) tt;
+          hi = larger-le (parts-weaken given (two-mono (F + 10) 58 (omega arith)));
+        }) tt tt
 
     few : n ≤ 40
     few = omega arith
 
-    sign : pos 0 ⩽ m
-    sign = size-sign (larger-parts s .re)
-
-    eight : Size (negsuc 7 *ℤ m) (two 61)
-    eight = record { lo = lin (m ∷ []) (larger-le g & none) (search reify depth 20) tt; hi = lin (m ∷ []) (sign & none) (search reify depth 20) tt }
-
     share : Size (rounding-share *ℤ pos n) (pos 120)
     share = record { lo = lin (pos n ∷ []) (nonneg-pos n & none) (search reify depth 20) tt; hi = lin (pos n ∷ []) (few &ℕ none) (search reify depth 20) tt }
 
-pub bound-is : (n : ℕ) (s : 𝔾) → rounding-share *ℤ pos n -ℤ shrZ (negsuc 7 *ℤ larger s) (2 ^ n) ≡ errorBound n s
-unfolding errorBound ceiling
-bound-is n s = ap (λ a. rounding-share *ℤ pos n -ℤ shrZ a (2 ^ n)) eight ∙ ring! ℤR (pos n ∷ shrZ (negℤ (pos 8 *ℤ larger s)) (2 ^ n) ∷ []) (search reify depth 20) tt
-  where
-    eight : negsuc 7 *ℤ larger s ≡ negℤ (pos 8 *ℤ larger s)
-    eight = ring! ℤR (larger s ∷ []) (search reify depth 20) tt
+pub bound-is : (n : ℕ) (s : 𝔾) → BoundFits n (larger s) → rounding-share *ℤ pos n -ℤ shrZ (negsuc 7 *ℤ larger s) (2 ^ n) ≡ errorBound n s
+unfolding errorBound
+bound-is n s f = ap (λ u. rounding-share *ℤ pos n +ℤ u) (f .up .made) ∙ +ℤ-comm (rounding-share *ℤ pos n) (ceiling (pos 8 *ℤ larger s) (2 ^ n))

@@ -6,21 +6,20 @@ use Prim.Native.Nat.{ℕ, _+_, _-_, _^_, _≤_, _<_}
 use native.Mathlib.Nat.{pow-zero}
 use native.Mathlib.Omega.{arith}
 use lib.Dec.{T}
-use lib.IntN.{ℤ, pos, negsuc, negℤ, natAbs, _+ℤ_, _-ℤ_, _*ℤ_, *ℤ-comm}
+use lib.IntN.{ℤ, pos, negsuc, natAbs, _+ℤ_, _-ℤ_, _*ℤ_, *ℤ-comm}
 use lib.Signed.{shrZ, nonNeg}
 use mir.Syntax.{w64}
 use mir.Val.{Fits as WordFits, SFits}
-use Rattle.algebra.specs.Integer.{ℤR}
 use Rattle.algebra.specs.Gauss.{𝔾, gi-path, iᵍ, i-mul, conj, _*ᵍ_, ιᵍ, g-mul-comm, g-mul-one}
-use Rattle.algebra.specs.Reify.{ring!, reify}
+use Rattle.algebra.specs.Reify.{reify}
 use Rattle.algebra.specs.Order.{_⩽_, nonneg-pos, pos-mono, pos-inj-le}
 use Rattle.algebra.specs.Linear.{lin, lin<, _&_, none}
 use Rattle.algebra.specs.Power.{two, two-whole, two-mono}
 use Rattle.algebra.specs.Floor.{ceiling}
 use Rattle.algebra.specs.Larger.{larger-le}
 use Rattle.algebra.specs.Parts.{Size, Parts, parts-weaken, size-nat, size-weaken, size-add, size-neg, size-mul, floorᵍ, scaled-re, scaled-im, within-parts}
-use Rattle.word.specs.Fits.{zero-sub, sfits-range, sfits-size}
-use Rattle.word.specs.Shift.{size-shift}
+use Rattle.word.specs.Fits.{sfits-range, sfits-size}
+use Rattle.word.specs.Shift.{size-shift, CeilingFits, ceiling-fits}
 use Rattle.point.specs.declared.Point.{Point}
 use Rattle.point.specs.Point.{gauss, point}
 use Rattle.point.specs.Limits.{Counts, steps-say, parts-say}
@@ -197,34 +196,8 @@ reduce-fits {F} narrow {p} {c} h = record {
     bx = size-mul (h .factor .im) (z .re)
 
 -- ---- the error bound
-pub record BoundFits (n : ℕ) (m : ℤ) : Type 0 where
-  pub m-fits : SFits w64 m
-  pub triple : SFits w64 (negsuc 2 *ℤ m)
-  pub over : SFits w64 (shrZ (negsuc 2 *ℤ m) (2 ^ n))
-  pub whole : SFits w64 (pos 0 -ℤ shrZ (negsuc 2 *ℤ m) (2 ^ n))
-  pub made : pos 0 -ℤ shrZ (negsuc 2 *ℤ m) (2 ^ n) ≡ boundAt n m
-
-pub bound-fits : {F : ℕ} → F ≤ 48 → {n : ℕ} {m : ℤ} → BoundPre F n m → BoundFits n m
-unfolding ceiling
-bound-fits {F} narrow {n} {m} p = record {
-  m-fits = sfits-size size tt;
-  triple = sfits-size tripled tt;
-  over = sfits-size shifted tt;
-  whole = subst (SFits w64) (sym (zero-sub (shrZ (negsuc 2 *ℤ m) (2 ^ n)))) (sfits-size (size-neg shifted) tt);
-  made = zero-sub (shrZ (negsuc 2 *ℤ m) (2 ^ n)) ∙ ap (λ u. negℤ (shrZ u (2 ^ n))) three;
-}
-  where
-    size : Size m (two 58)
-    size = size-weaken (p .size) (two-mono (F + 10) 58 (omega arith))
-
-    three : negsuc 2 *ℤ m ≡ negℤ (pos 3 *ℤ m)
-    three = ring! ℤR (m ∷ []) (search reify depth 20) tt
-
-    tripled : Size (negsuc 2 *ℤ m) (pos 3 *ℤ two 58)
-    tripled = size-mul {x = negsuc 2} {a = pos 3} (record { lo = record { le = tt }; hi = record { le = tt } }) size
-
-    shifted : Size (shrZ (negsuc 2 *ℤ m) (2 ^ n)) (pos 3 *ℤ two 58)
-    shifted = size-shift (2 ^ n) tripled
+pub bound-fits : {F : ℕ} → F ≤ 48 → {n : ℕ} {m : ℤ} → BoundPre F n m → CeilingFits (negsuc 2) m (pos 3 *ℤ two 58) n
+bound-fits {F} narrow {n} p = ceiling-fits {c = negsuc 2} {a = pos 3} {b = two 58} n (record { lo = record { le = tt }; hi = record { le = tt } }) (size-weaken (p .size) (two-mono (F + 10) 58 (omega arith))) tt tt
 
 -- ---- what the reduction hands on
 module _ {F : ℕ} (wide : 10 ≤ F) {w : Point} {b : ℕ} (s : ScalePre F w b) where

@@ -1,4 +1,5 @@
--- A digit's part in code: its place in a row is one more than it. No branch is made on it, which a digit would mispredict.
+-- A digit's part in code: its place among the rows is one more than it, and an entry of a row is picked by its sign. No branch is made on it,
+-- which a digit would mispredict.
 use mathlib.Core.Path.{_≡_, refl}
 use mathlib.Core.Bool.{true, false}
 use mathlib.Core.List.{List}

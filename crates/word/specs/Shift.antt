@@ -1,22 +1,25 @@
--- Shifts: `>>` is the floor of the quotient and grows nothing, a constant shifted right is a smaller constant, and `<<` multiplies.
+-- Shifts: `>>` is the floor of the quotient and grows nothing, a constant shifted right is a smaller constant, a ceiling is a floor below zero,
+-- and `<<` multiplies.
 use mathlib.Core.Path.{_≡_, refl, _∙_, ap, subst}
 use mathlib.Core.List.{[], _∷_}
 use Prim.Native.Nat.{ℕ, zero, suc, _+_, _*_, _-_, _%_, _^_, _≤_, _<_, zero-le, suc-le-suc}
 use native.Mathlib.Omega.{arith}
 use native.Mathlib.Nat.{div-le-self, mod-eq-of-lt, mul-pos, le-mul-of-pos-right, mul-add-mod-self-left}
+use lib.Dec.{T}
 use lib.Pow.{suc-ones}
 use lib.IntN.{ℤ, pos, negsuc, negℤ, natAbs, _*ℤ_}
-use lib.Signed.{shrZ, mag-shr}
+use lib.Signed.{shrZ, mag-shr, ltZ}
 use mir.Syntax.{w64}
 use mir.Val.{SFits, toZ, ofZ}
 use mir.ValLaws.{toZ-pos, toZ-neg}
-use Rattle.algebra.specs.Reify.{reify}
+use Rattle.algebra.specs.Integer.{ℤR}
+use Rattle.algebra.specs.Reify.{ring!, reify}
 use Rattle.algebra.specs.Order.{⩽-trans, pos-mono}
 use Rattle.algebra.specs.Linear.{lin, _&_, _&≡_, none}
 use Rattle.algebra.specs.Power.{two, two≥1, two-pos, two-whole}
-use Rattle.algebra.specs.Floor.{floor-unique}
-use Rattle.algebra.specs.Parts.{abs, Size, size-abs, abs-size}
-use Rattle.word.specs.Fits.{back}
+use Rattle.algebra.specs.Floor.{floor-unique, ceiling}
+use Rattle.algebra.specs.Parts.{abs, Size, size-abs, abs-size, size-mul}
+use Rattle.word.specs.Fits.{back, sfits-size}
 
 -- ---- right
 natAbs-shift : (x : ℤ) (m : ℕ) → natAbs (shrZ x m) ≤ natAbs x
@@ -42,6 +45,27 @@ shift-constant c m n h = floor-unique (2 ^ n) (two-pos n) (c *ℤ two m) (c *ℤ
 -- the same as the machine reads it back
 pub shift-constant-word : (c : ℤ) (m n : ℕ) → n ≤ m → SFits w64 (c *ℤ two m) → toZ w64 (ofZ w64 (shrZ (c *ℤ two m) (2 ^ n))) ≡ c *ℤ two (m - n)
 shift-constant-word c m n h f = back (sfits-shift (2 ^ n) f) ∙ shift-constant c m n h
+
+-- a quotient rounded up is `-((c * m) >> n)` with c below zero
+pub record CeilingFits (c m b : ℤ) (n : ℕ) : Type 0 where
+  pub given : SFits w64 m
+  pub product : SFits w64 (c *ℤ m)
+  pub down : SFits w64 (shrZ (c *ℤ m) (2 ^ n))
+  pub size : Size (shrZ (c *ℤ m) (2 ^ n)) b
+  pub made : negℤ (shrZ (c *ℤ m) (2 ^ n)) ≡ ceiling (negℤ c *ℤ m) (2 ^ n)
+
+pub ceiling-fits : {c m a b : ℤ} (n : ℕ) → Size c a → Size m b → T (ltZ b (two 63)) → T (ltZ (a *ℤ b) (two 63)) → CeilingFits c m (a *ℤ b) n
+unfolding ceiling
+ceiling-fits {c} {m} n p q s t = record {
+  given = sfits-size q s;
+  product = sfits-size (size-mul p q) t;
+  down = sfits-size (size-shift (2 ^ n) (size-mul p q)) t;
+  size = size-shift (2 ^ n) (size-mul p q);
+  made = ap (λ u. negℤ (shrZ u (2 ^ n))) twice;
+}
+  where
+    twice : c *ℤ m ≡ negℤ (negℤ c *ℤ m)
+    twice = ring! ℤR (c ∷ m ∷ []) (search reify depth 20) tt
 
 -- ---- left: the code's `x << k` wraps, so it asks nothing; where the product fits, it is the product
 -- (M − a − 1)·(p + 1) = M·p + (M − j − 1), where (a + 1)·(p + 1) = j + 1

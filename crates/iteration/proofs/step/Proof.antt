@@ -1,5 +1,5 @@
 -- `iteration::step` meets its contract.
-use mathlib.Core.Path.{_≡_, sym, _∙_, ap, ap₂, subst}
+use mathlib.Core.Path.{_≡_, sym, _∙_, ap, subst}
 use borrow.Author.Needs.{needs}
 use Rattle.algebra.specs.Gauss.{_-ᵍ_}
 use Rattle.word.specs.Fits.{back, sfits-mag}
