@@ -17,7 +17,7 @@ use Rattle.entries.specs.Reciprocal.{reciprocal}
 use Rattle.entries.specs.Table.{stepTable, reciprocalTable}
 use Rattle.iteration.specs.declared.Mode.the-variants.{Exp, Log}
 use Rattle.iteration.specs.Select.{exp-select, cut-back, log-select}
-use Rattle.iteration.specs.State.{state, select, next, run, digits}
+use Rattle.iteration.specs.Run.{state, select, next, run, digits}
 use Rattle.exponential.specs.Answer.{inRectangle, answer, expAnswer}
 use Rattle.logarithm.specs.Quadrant.{turn-back, turns-back, quarters, turned, spelling, quadrant}
 use Rattle.logarithm.specs.Scale.{bits-from, bits, bit-length, binary-exponent, scaled}

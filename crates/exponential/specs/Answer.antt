@@ -20,8 +20,7 @@ use Rattle.entries.specs.Promise.{StepTable}
 use Rattle.entries.specs.Table.{stepTable}
 use Rattle.iteration.specs.declared.State.{State}
 use Rattle.iteration.specs.declared.Mode.the-variants.{Exp}
-use Rattle.iteration.specs.State.{state, run}
-use Rattle.iteration.specs.Drift.{rounding-share}
+use Rattle.iteration.specs.Run.{rounding-share, state, run}
 
 -- ---- the limits, all ends included (one is 2^F units; 01 has F = 48): "N is 1 to 40" is inSteps F 1, and "Each start part is at most 2^58
 -- in size" is inParts F (point, Limits)

@@ -10,7 +10,7 @@ use Rattle.algebra.specs.Linear.{lin, lin<, _&_, none}
 use Rattle.algebra.specs.Power.{two, two-pos}
 use Rattle.algebra.specs.Floor.{floor-lo, floor-hi, ceiling}
 use Rattle.algebra.specs.Larger.{larger}
-use Rattle.iteration.specs.Drift.{rounding-share}
+use Rattle.iteration.specs.Run.{rounding-share}
 use Rattle.exponential.specs.Answer.{errorBound}
 
 module _ (n : ℕ) (s : 𝔾) where

@@ -13,7 +13,7 @@ use Rattle.answer.specs.Record.{recordOf}
 use Rattle.entries.specs.Numbers48.{stepLogs}
 use Rattle.entries.specs.Table.{stepTable}
 use Rattle.iteration.specs.Select.{exp-select}
-use Rattle.iteration.specs.State.{select, next, run}
+use Rattle.iteration.specs.Run.{select, next, run}
 use Rattle.exponential.specs.Answer.{inRectangle, errorBound, answer, expAnswer}
 
 -- ---- the limits by 01's numbers

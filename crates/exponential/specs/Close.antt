@@ -1,6 +1,6 @@
 -- What is proved of the answer: what its tests say, convergence, and that it is close, at the width 48 with no hypothesis left.
-use mathlib.Core.Path.{_≡_, refl, sym, subst}
-use mathlib.Core.Bool.{Bool, true, false}
+use mathlib.Core.Path.{_≡_, sym, subst}
+use mathlib.Core.Bool.{true, false}
 use mathlib.Core.List.{[], _∷_}
 use Prim.Native.Nat.{ℕ, _+_, _-_, _^_, _≤_}
 use native.Mathlib.Omega.{arith}
@@ -22,8 +22,8 @@ use Rattle.point.specs.Limits.{inSteps, inParts, Counts, steps-say, box-says}
 use Rattle.answer.specs.declared.Refusal.the-variants.{Steps, Exponent, Part}
 use Rattle.answer.specs.declared.Answer.{Answer}
 use Rattle.answer.specs.declared.Answer.the-variants.{Answered, Refused}
-use Rattle.answer.specs.Refusal.{unless}
-use Rattle.iteration.specs.State.{state}
+use Rattle.answer.specs.Refusal.{unless-keeps}
+use Rattle.iteration.specs.Run.{state}
 use Rattle.exponential.specs.Convergence.{Rectangle, Below, converges}
 use Rattle.exponential.specs.Error.{exp-error}
 use Rattle.exponential.specs.Answer.{inRectangle, ended, figures, answer, errorBound, expAnswer, miss, allowed, CloseAt, Close}
@@ -102,17 +102,14 @@ module _ (F n T : ℕ) (e s a : 𝔾) (close : CloseAt F n T e s a) where
 -- THE ANSWER IS CLOSE, for all inputs of the call
 pub exp-close : (n ex ey sx sy : ℤ) → Close n ex ey sx sy (expAnswer n ex ey sx sy)
 unfolding expAnswer answer
-exp-close n ex ey sx sy = go (inSteps 48 1 n) (inRectangle 48 (gi ex ey)) (inParts 48 (gi sx sy))
-    (λ p q r. close-at 48 (omega arith) (omega arith) stepTable step-promise (record { steps = p; rectangle = q; start = r }))
+exp-close n ex ey sx sy =
+    unless-keeps P (inSteps 48 1 n) Steps _ tt
+    (λ a. unless-keeps P (inRectangle 48 (gi ex ey)) Exponent _ tt
+    (λ b. unless-keeps P (inParts 48 (gi sx sy)) Part _ tt
+    (λ c. close-at 48 (omega arith) (omega arith) stepTable step-promise (record { steps = a; rectangle = b; start = c }))))
   where
-    A : Answer
-    A = Answered (figures 48 stepTable (natAbs n) (gi ex ey) (gi sx sy))
-
-    go : (a b c : Bool) → (a ≡ true → b ≡ true → c ≡ true → Close n ex ey sx sy A) → Close n ex ey sx sy (unless a Steps (unless b Exponent (unless c Part A)))
-    go true true true f = f refl refl refl
-    go true true false f = tt
-    go true false c f = tt
-    go false b c f = tt
+    P : Answer → Type 0
+    P = Close n ex ey sx sy
 
 -- so what equals it meets both clauses of the call
 pub settled : (n ex ey sx sy : ℤ) {r : Answer} → answer 48 stepTable n (gi ex ey) (gi sx sy) ≡ r → (r ≡ expAnswer n ex ey sx sy) × Close n ex ey sx sy r

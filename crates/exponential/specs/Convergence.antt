@@ -18,7 +18,7 @@ use Rattle.entries.specs.Promise.{StepTable, look, StepEntry, StepPromise}
 use Rattle.iteration.specs.Select.{cut-says, low-x, high-x, low-y, high-y, exp-select, exp-digit}
 use Rattle.iteration.specs.declared.State.{State}
 use Rattle.iteration.specs.declared.Mode.the-variants.{Exp}
-use Rattle.iteration.specs.State.{select, next, moved, run, run-keeps}
+use Rattle.iteration.specs.Run.{select, next, moved, run, run-keeps}
 use Rattle.exponential.specs.Box.{Fits, Inside, part, ends}
 
 -- ---- the boxes and the cuts, in 1/2048 of h = 2^(F−n)

@@ -19,8 +19,8 @@ use Rattle.word.specs.Fits.{sfits-size}
 use Rattle.word.specs.Shift.{CeilingFits, ceiling-fits}
 use Rattle.entries.specs.Promise.{StepTable, StepPromise}
 use Rattle.iteration.specs.declared.Mode.the-variants.{Exp}
-use Rattle.iteration.specs.State.{state}
-use Rattle.iteration.specs.Drift.{rounding-share, exact-start, exact-run, exact-size}
+use Rattle.iteration.specs.Run.{rounding-share, state}
+use Rattle.iteration.specs.Drift.{exact-start, exact-run, exact-size}
 use Rattle.iteration.specs.Fits.{Fits}
 use Rattle.exponential.specs.Convergence.{Rectangle, below-parts, converges}
 use Rattle.exponential.specs.Answer.{errorBound}

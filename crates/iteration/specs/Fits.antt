@@ -1,5 +1,5 @@
--- For the code: what its parts ask and make, that nothing they make overflows, and one turn of its loop. Over a width F up to 48.
-use mathlib.Core.Path.{_≡_, sym, _∙_, ap, ap₂, subst}
+-- For the code: what its parts ask and make, and that nothing they make overflows. Over a width F up to 48.
+use mathlib.Core.Path.{_≡_, sym, _∙_, ap, subst}
 use mathlib.Core.List.{List, [], _∷_}
 use Prim.Native.Nat.{ℕ, suc, _+_, _-_, _^_, _≤_, _<_}
 use native.Mathlib.Omega.{arith}
@@ -22,13 +22,12 @@ use Rattle.point.specs.Point.{gauss, gaussᵈ, digit}
 use Rattle.point.specs.Step.{step}
 use Rattle.entries.specs.declared.Entry.{Entry}
 use Rattle.entries.specs.Listed.{byDigit}
-use Rattle.entries.specs.Promise.{StepTable, look}
-use Rattle.entries.specs.Table.{stepTable}
-use Rattle.entries.specs.Rows.{number, none as no-entry, stepRow, row-entry}
+use Rattle.entries.specs.Promise.{StepTable}
+use Rattle.entries.specs.Rows.{number, none as no-entry}
 use Rattle.iteration.specs.declared.State.{State}
 use Rattle.iteration.specs.declared.Mode.{Mode}
 use Rattle.iteration.specs.Select.{low-x, high-x, low-y, high-y, half}
-use Rattle.iteration.specs.State.{state, select, select-digit, next, moved, run}
+use Rattle.iteration.specs.Run.{state, run}
 
 -- ---- what the parts ask and make
 -- both parts of both numbers at most 2^61 in size, where no step overflows (01, Points and units)
@@ -132,39 +131,3 @@ less-fits {e} {z} h = record {
       lo = lin (x ∷ y ∷ []) (a .lo & b .hi & none) (search reify depth 20) tt;
       hi = lin (x ∷ y ∷ []) (a .hi & b .lo & none) (search reify depth 20) tt;
     }
-
--- ---- one turn of the loop
-module _ {F : ℕ} {t : StepTable} {mode : Mode} {k n : ℕ} {x : State} (f : Fits F t mode k n x) where
-  pub here : Small x
-  unfolding run
-  here = f .small 0 (omega arith)
-
-  module _ (h : k < n) where
-    left-is : n - k ≡ suc (n - suc k)
-    left-is = omega arith
-
-    pub onward : Fits F t mode (suc k) n (moved F t mode (suc k) x)
-    unfolding run
-    onward = record { least = h; most = f .most; small = λ j l. f .small (suc j) (omega (arith, left-is)) }
-
-    pub run-more : run F t mode k (n - k) x ≡ run F t mode (suc k) (n - suc k) (moved F t mode (suc k) x)
-    unfolding run
-    run-more = ap (λ m. run F t mode k m x) left-is
-
--- ---- a step of the code, by the digit of its mode and the row of that digit
-module _ (mode : Mode) (k : ℕ) (s : State) {d : Digit} {row : List Entry} (chosen : d ≡ digit (select 48 mode (suc k) s)) (found : row ≡ stepRow (suc k) (d .dx)) where
-  entry-is : number (byDigit row no-entry (d .dy)) ≡ look stepTable (suc k) (select 48 mode (suc k) s)
-  entry-is = ap (λ r. number (byDigit r no-entry (d .dy))) found ∙ ap number (row-entry (suc k) (d .dx) (d .dy)) ∙ ap (λ x. look stepTable (suc k) (gaussᵈ x)) chosen
-
-  pub step-is : stepOf s d row (suc k) ≡ moved 48 stepTable mode (suc k) s
-  unfolding next
-  step-is = ap₂ (λ x z. state (step (suc k) (gaussᵈ x) (gauss (s .point))) (gauss (s .sum) -ᵍ z)) chosen entry-is
-
-  pub step-ok : {n : ℕ} → Fits 48 stepTable mode k n s → k < n → StepPre s d row (suc k)
-  unfolding next
-  step-ok f h = record {
-    small = here f;
-    digit = subst (λ x. IsDigit (gaussᵈ x)) (sym chosen) (select-digit 48 mode (suc k) s);
-    count = omega (arith, f .most);
-    left = subst (λ z. Parts (gauss (s .sum) -ᵍ z) (two 61)) (sym entry-is) (here (onward f h) .sum);
-  }

@@ -20,7 +20,7 @@ use Rattle.entries.specs.Promise.{StepTable, ReciprocalTable}
 use Rattle.entries.specs.Table.{stepTable, reciprocalTable}
 use Rattle.iteration.specs.declared.State.{State}
 use Rattle.iteration.specs.declared.Mode.the-variants.{Log}
-use Rattle.iteration.specs.State.{state, run}
+use Rattle.iteration.specs.Run.{state, run}
 use Rattle.logarithm.specs.Quadrant.{quadrant, turned, i^}
 use Rattle.logarithm.specs.Scale.{binary-exponent, scaled, power}
 use Rattle.logarithm.specs.Cell.{cellX, cellY, reduced}

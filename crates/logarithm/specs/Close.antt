@@ -1,11 +1,12 @@
 -- What is proved of LOG's answer: its four cases, the ranges of its figures, convergence and remainder, and that it is close.
-use mathlib.Core.Path.{_≡_, refl, sym, _∙_, ap, ap₂, subst}
-use mathlib.Core.Bool.{Bool, true, false, not, _&&_}
+use mathlib.Core.Path.{_≡_, sym, _∙_, ap, ap₂, subst}
+use mathlib.Core.Bool.{true, false, not, _&&_}
 use mathlib.Core.List.{[], _∷_}
 use mathlib.Core.Logic.{⊎-elim}
 use Prim.Native.Nat.{ℕ, suc, _+_, _-_, _^_, _≤_}
 use native.Mathlib.Omega.{arith}
 use lib.Dec.{T, lit≤}
+use borrow.Author.Tests.{not-true}
 use lib.IntN.{ℤ, pos, natAbs, _+ℤ_, _-ℤ_, _*ℤ_}
 use Rattle.algebra.specs.Gauss.{𝔾, 𝔾R, gi, ιᵍ, negᵍ, _-ᵍ_, _*ᵍ_}
 use Rattle.algebra.specs.Reify.{ring!, reify, reifyᵍ}
@@ -22,7 +23,7 @@ use Rattle.point.specs.Point.{gauss}
 use Rattle.answer.specs.declared.Refusal.the-variants.{Steps, Part, Zero}
 use Rattle.answer.specs.declared.Answer.{Answer}
 use Rattle.answer.specs.declared.Answer.the-variants.{Answered, Refused}
-use Rattle.answer.specs.Refusal.{unless}
+use Rattle.answer.specs.Refusal.{unless-keeps}
 use Rattle.entries.specs.Promise.{StepTable, ReciprocalTable, StepPromise, ReciprocalPromise}
 use Rattle.entries.specs.Table.{stepTable, reciprocalTable}
 use Rattle.entries.specs.Promise48.{step-promise, reciprocal-promise}
@@ -161,16 +162,14 @@ module _ (F : ℕ) (wide : 11 ≤ F) {n : ℤ} {p : 𝔾} (a : Accepted F n p) w
 -- ---- at the width 48: THE ANSWER IS CLOSE, for all inputs
 pub log-close : (n x y : ℤ) → Close n x y (logAnswer n x y)
 unfolding logAnswer answer
-log-close n x y = go (inSteps 48 3 n) (inParts 48 (gi x y)) (isZero (gi x y)) refl refl refl
+log-close n x y =
+    unless-keeps P (inSteps 48 3 n) Steps _ tt
+    (λ a. unless-keeps P (inParts 48 (gi x y)) Part _ tt
+    (λ b. unless-keeps P (not (isZero (gi x y))) Zero _ tt
+    (λ c. close-at 48 (lit≤ tt) (record { steps = a; parts = b; nonzero = not-true _ c }) stepTable reciprocalTable (lit≤ tt) step-promise reciprocal-promise)))
   where
-    A : Answer
-    A = Answered (figures 48 stepTable reciprocalTable (natAbs n) (gi x y))
-
-    go : (a b c : Bool) → inSteps 48 3 n ≡ a → inParts 48 (gi x y) ≡ b → isZero (gi x y) ≡ c → Close n x y (unless a Steps (unless b Part (unless (not c) Zero A)))
-    go false b c e f g = tt
-    go true false c e f g = tt
-    go true true true e f g = tt
-    go true true false e f g = close-at 48 (lit≤ tt) (record { steps = e; parts = f; nonzero = g }) stepTable reciprocalTable (lit≤ tt) step-promise reciprocal-promise
+    P : Answer → Type 0
+    P = Close n x y
 
 -- so what equals it meets both clauses of the call
 pub settled : (n x y : ℤ) {r : Answer} → answer 48 stepTable reciprocalTable n (gi x y) ≡ r → (r ≡ logAnswer n x y) × Close n x y r

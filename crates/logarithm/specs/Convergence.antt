@@ -19,7 +19,7 @@ use Rattle.entries.specs.Promise.{StepTable, ReciprocalTable, StepPromise, Reci
 use Rattle.iteration.specs.declared.State.{State}
 use Rattle.iteration.specs.declared.Mode.the-variants.{Log}
 use Rattle.iteration.specs.Select.{half, log-select, log-digit, log-near}
-use Rattle.iteration.specs.State.{select, select-digit, next, moved, run, run-keeps}
+use Rattle.iteration.specs.Run.{select, select-digit, next, moved, run, run-keeps}
 use Rattle.iteration.specs.Drift.{Short, short-next}
 use Rattle.logarithm.specs.Quadrant.{Cone}
 use Rattle.logarithm.specs.Scale.{scaled, Scaled, scaled-ranges}

@@ -20,7 +20,7 @@ use Rattle.point.specs.Point.{gauss}
 use Rattle.entries.specs.Promise.{StepTable, ReciprocalTable, StepPromise, ReciprocalPromise, ReciprocalEntry}
 use Rattle.iteration.specs.declared.Mode.the-variants.{Log}
 use Rattle.iteration.specs.Select.{half}
-use Rattle.iteration.specs.State.{state, run}
+use Rattle.iteration.specs.Run.{state, run}
 use Rattle.iteration.specs.Drift.{Short, Exact, exact-length, Near, one-factor, drift}
 use Rattle.logarithm.specs.Quadrant.{Cone, cone-pos, cone-parts}
 use Rattle.logarithm.specs.Scale.{bit-length, scaled, up, down, up-down, scaled-error, scaled-ranges}

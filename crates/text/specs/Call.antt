@@ -1,6 +1,6 @@
 -- From the parts of a line's answer to the call: what bounds its bytes, and its three equations.
 use mathlib.Core.Path.{_≡_, refl}
-use mathlib.Core.Bool.{Bool, true, false}
+use mathlib.Core.Bool.{true}
 use mathlib.Core.List.{List, [], _∷_}
 use Prim.Native.Nat.{ℕ, _≤_, _<_, _^_}
 use lib.Dec.{lit<}
@@ -17,7 +17,7 @@ use Rattle.answer.specs.declared.Refusal.{Refusal}
 use Rattle.answer.specs.declared.Refusal.the-variants as why
 use Rattle.answer.specs.declared.Answer.{Answer}
 use Rattle.answer.specs.declared.Answer.the-variants.{Answered, Refused}
-use Rattle.answer.specs.Refusal.{refusalNumber, unless}
+use Rattle.answer.specs.Refusal.{refusalNumber, unless, unless-keeps}
 use Rattle.exponential.specs.Answer.{answer, expAnswer}
 use Rattle.logarithm.specs.Answer.{answer as log-answer, logAnswer}
 use Rattle.scan.specs.Either.{either}
@@ -37,12 +37,11 @@ ShortSteps n (Answered f) = length (showNumber n) ≤ 2
 ShortSteps n (Refused r) = Unit {0}
 
 short-steps : (lo : ℕ) (n : ℤ) (a : Answer) → ShortSteps n (unless (between (pos lo) (pos 40) n) why.Steps a)
-short-steps lo n a = go (between (pos lo) (pos 40) n) refl a
+short-steps lo n a = unless-keeps (ShortSteps n) (between (pos lo) (pos 40) n) why.Steps a tt (short a)
   where
-    go : (b : Bool) → between (pos lo) (pos 40) n ≡ b → (a : Answer) → ShortSteps n (unless b why.Steps a)
-    go true e (Answered f) = short-range lo 1 n (lit< tt) e
-    go true e (Refused r) = tt
-    go false e a = tt
+    short : (a : Answer) → between (pos lo) (pos 40) n ≡ true → ShortSteps n a
+    short (Answered f) e = short-range lo 1 n (lit< tt) e
+    short (Refused r) e = tt
 
 pub short-exp : (n ex ey sx sy : ℤ) → ShortSteps n (expAnswer n ex ey sx sy)
 unfolding expAnswer answer inSteps

@@ -4,13 +4,16 @@ use mathlib.Core.Path.{_≡_, refl, sym, _∙_, ap, subst, subst₂}
 use Prim.Native.Nat.{ℕ, suc, _+_, _-_, _≤_}
 use native.Mathlib.Omega.{arith}
 use Rattle.word.specs.Fits.{back, sfits-mag}
-use Rattle.point.specs.Point.{digit}
+use Rattle.point.specs.Point.{gaussᵈ, digit}
+use Rattle.entries.specs.Listed.{byDigit}
+use Rattle.entries.specs.Promise.{look}
 use Rattle.entries.specs.Table.{stepTable}
-use Rattle.entries.specs.Rows.{stepRow}
+use Rattle.entries.specs.Rows.{number, none, stepRow, row-entry}
 use Rattle.iteration.specs.declared.State.{State}
 use Rattle.iteration.specs.declared.Mode.{Mode}
-use Rattle.iteration.specs.State.{select, run}
-use Rattle.iteration.specs.Fits.{Fits, StepPre, stepOf, here, onward, run-more, step-is, step-ok}
+use Rattle.iteration.specs.Run.{select, run}
+use Rattle.iteration.specs.Fits.{Fits, StepPre, stepOf}
+use Rattle.iteration.specs.Loop.{here, onward, run-more, step-is, step-ok}
 use Rattle.iteration.proofs.run.Statement.{statement}
 use Rattle.iteration.proofs.run.Tie as tie
 
@@ -28,19 +31,21 @@ abbrev μ-loop : tie.MeasureT-loop
 counted : {k : ℕ} → 1 ≤ k → suc (k - 1) ≡ k
 counted h = omega arith
 
--- the digit of the step, and its row
+-- the digit of the step, and the entry of its row
 chosen : (c : tie.After-select Inv-loop μ-loop) → let l = c .before .before in
     c .select .result ≡ digit (select 48 (l .before .args .mode) (suc (l .loop .k - 1)) (l .loop .s))
 chosen c = let l = c .before .before in c .select .ensures ∙ ap (λ k. digit (select 48 (l .before .args .mode) k (l .loop .s))) (sym (counted (l .loop .inv .0)))
 
 found : (c : tie.After-row Inv-loop μ-loop) → let s = c .before .before in
-    c .row .result ≡ stepRow (suc (s .before .before .loop .k - 1)) (s .select .result .dx)
+    number (byDigit (c .row .result) none (s .select .result .dy)) ≡ look stepTable (suc (s .before .before .loop .k - 1)) (gaussᵈ (s .select .result))
 found c =
     let t = c .before in
     let s = t .before in
     let l = s .before .before in
-    let dx = back (sfits-mag (s .select .result .dx) (t .struct-told .given .0 .1)) in
-    c .row .ensures .0 ∙ (λ i. stepRow (sym (counted (l .loop .inv .0)) i) (dx i))
+    let d = s .select .result in
+    let dx = back (sfits-mag (d .dx) (t .struct-told .given .0 .1)) in
+    let row = c .row .ensures .0 ∙ (λ i. stepRow (sym (counted (l .loop .inv .0)) i) (dx i)) in
+    ap (λ r. number (byDigit r none (d .dy))) row ∙ ap number (row-entry (suc (l .loop .k - 1)) (d .dx) (d .dy))
 
 add-k : tie.Need-add-k Inv-loop μ-loop
 add-k c = omega (arith, c .pre .least, c .pre .most)
@@ -63,7 +68,7 @@ step-requires c κs =
     let l = s .before .before in
     let k = l .loop .k in
     subst (StepPre (l .loop .s) (s .select .result) (c .row .result)) (counted (l .loop .inv .0))
-    (step-ok (l .before .args .mode) (k - 1) (l .loop .s) (chosen s) (found c) (l .loop .inv .1 .0) (omega arith))
+    (step-ok 48 stepTable (l .before .args .mode) (k - 1) (l .loop .s) (s .select .result) (c .row .result) (chosen s) (found c) (omega arith) (l .loop .inv .1 .0) (omega arith))
 
 add-k-2 : tie.Need-add-k-2 Inv-loop μ-loop
 add-k-2 c = let l = c .before .before .before .before .before in omega (arith, l .loop .inv .1 .0 .most)
@@ -80,7 +85,7 @@ loop-again c =
     let k = l .loop .k in
     let f = l .loop .inv .1 .0 in
     let made = c .step .ensures ∙ (ap (stepOf (l .loop .s) (s .select .result) (r .row .result)) (sym (counted (l .loop .inv .0)))
-    ∙ step-is (a .mode) (k - 1) (l .loop .s) (chosen s) (found r)) in
+    ∙ step-is 48 stepTable (a .mode) (k - 1) (l .loop .s) (s .select .result) (r .row .result) (chosen s) (found r)) in
     let same : suc (k - 1) ≡ k + 1 - 1 = omega (arith, l .loop .inv .0) in (
       omega arith,
       subst₂ (Left (a .mode) (a .n) (run 48 stepTable (a .mode) (a .from) (a .n - a .from) (a .start))) (sym made) same

@@ -1,6 +1,6 @@
 -- `iteration::select` meets its contract.
 use borrow.Author.Needs.{needs}
-use Rattle.iteration.specs.State.{select}
+use Rattle.iteration.specs.Run.{select}
 use Rattle.iteration.proofs.select.Statement.{statement}
 use Rattle.iteration.proofs.select.Tie as tie
 

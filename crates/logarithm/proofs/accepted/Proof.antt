@@ -14,7 +14,7 @@ use Rattle.entries.specs.Table.{stepTable, reciprocalTable}
 use Rattle.entries.specs.Promise48.{step-promise, reciprocal-promise}
 use Rattle.iteration.specs.declared.State.{State}
 use Rattle.iteration.specs.declared.Mode.the-variants.{Log}
-use Rattle.iteration.specs.State.{run}
+use Rattle.iteration.specs.Run.{run}
 use Rattle.iteration.specs.Fits.{Fits}
 use Rattle.logarithm.specs.declared.reduction.Turn.{Turn}
 use Rattle.logarithm.specs.Quadrant.{turned}
