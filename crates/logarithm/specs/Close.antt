@@ -28,11 +28,12 @@ use Rattle.entries.specs.Promise.{StepTable, ReciprocalTable, StepPromise, Reci
 use Rattle.entries.specs.Table.{stepTable, reciprocalTable}
 use Rattle.entries.specs.Promise48.{step-promise, reciprocal-promise}
 use Rattle.iteration.specs.Select.{half}
+use Rattle.iteration.specs.Drift.{Short}
 use Rattle.logarithm.specs.Quadrant.{quadrant, turned, i^, point-is, within-i, Cone, cone-pos, turned-cone, turned-re}
 use Rattle.logarithm.specs.Scale.{bit-length, binary-exponent, length-pos, length-le, scaled, scaled-ranges, power, power-is}
 use Rattle.logarithm.specs.Cell.{reduced, reduced-near}
 use Rattle.logarithm.specs.Answer.{begun, ended, isZero, figures, answer, logAnswer, miss, CloseAt, Close}
-use Rattle.logarithm.specs.Convergence.{Converging, converges, converges-times, most, sum-size, begun-converging, begun-short}
+use Rattle.logarithm.specs.Convergence.{Converging, converges, converges-times, most, log-short, sum-size, begun-converging, begun-entry}
 use Rattle.logarithm.specs.Error.{turned-error}
 
 -- ---- the zero point: M is nought at nought alone
@@ -131,10 +132,13 @@ module _ (F : ℕ) (wide : 11 ≤ F) {n : ℤ} {p : 𝔾} (a : Accepted F n p) w
         below {x} h = lin< (abs x ∷ two (F - N) ∷ half F (suc N) ∷ []) (size-abs h & two-mul-le 2 (F - suc (suc N)) (F - N) (omega (arith, fits)) & two≥1 (F - suc (suc N)) & none)
             (search reify depth 20) tt
 
+    -- the size of the seat's logarithm, and of the answer: at most 27/16
+    pub begun-short : ReciprocalPromise F logs → Short F (most F) 2 (gauss (begun F logs (turned p) .sum))
+    begun-short reciprocals = within-neg (log-short F (omega arith) (begun-entry F (omega arith) logs w cone reciprocals))
+
     module _ (narrow : F ≤ 48) (entries : StepPromise F (F - 8) steps) (reciprocals : ReciprocalPromise F logs) where
-      -- the answer is at most 27/16 long
       pub answer-within : Within (gauss (ended F steps logs (natAbs n) (turned p) .sum)) (most F)
-      answer-within = sum-size F (F - 8) (omega arith) steps entries (begun F logs w) (begun-short F (omega arith) logs w cone reciprocals)
+      answer-within = sum-size F (F - 8) (omega arith) steps entries (begun F logs w) (begun-short reciprocals)
           N (N - 2) (omega (arith, count .at-least)) (count .at-most)
 
       -- demand 3: from the turned point back to the given one, with 2^(F+k) for the length of wx in bits

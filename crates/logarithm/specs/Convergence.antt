@@ -10,7 +10,7 @@ use Rattle.algebra.specs.Reify.{ring!, reify, reifyᵍ}
 use Rattle.algebra.specs.Order.{_⩽_, ⩽-refl, nonneg-mul, nonneg-pos, sub-nonneg}
 use Rattle.algebra.specs.Linear.{lin, _&_, _&≡_, none}
 use Rattle.algebra.specs.Power.{two, twoᵍ, two≥1, two-suc, two-mono, two-whole, two-halve}
-use Rattle.algebra.specs.Within.{Within, within-ι, within-neg, within-weaken, within-cancel}
+use Rattle.algebra.specs.Within.{Within, within-ι, within-weaken, within-cancel}
 use Rattle.algebra.specs.Parts.{Parts, parts-add, parts-scale, parts-cancel, parts-weaken, parts-digit, within-parts}
 use Rattle.point.specs.Digit.{digit-parts}
 use Rattle.point.specs.Point.{gauss}
@@ -161,6 +161,3 @@ module _ (F : ℕ) (wide : 10 ≤ F) (logs : ReciprocalTable) (w : 𝔾) (cone :
 
   pub begun-entry : ReciprocalPromise F logs → ReciprocalEntry F (reciprocalOf F (scaled F w)) (logs (cellX F (scaled F w)) (cellY F (scaled F w)))
   begun-entry promise = promise (column F p) (row F p) (in-table F wide p ranges)
-
-  pub begun-short : ReciprocalPromise F logs → Short F (most F) 2 (gauss (begun F logs w .sum))
-  begun-short promise = within-neg (log-short F (omega arith) (begun-entry promise))

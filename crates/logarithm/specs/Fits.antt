@@ -36,8 +36,8 @@ use Rattle.logarithm.specs.Quadrant.{turned, quadrant, turns-back, quart
 use Rattle.logarithm.specs.Scale.{bits, bit-length, scaled, up, down, length-law, length-le, scaled-exact, Scaled, scaled-ranges}
 use Rattle.logarithm.specs.Cell.{column, row, cellX, cellY, reciprocalOf, reciprocal-parts, in-table}
 use Rattle.logarithm.specs.Answer.{begun, errorBound, figures}
-use Rattle.logarithm.specs.Convergence.{converging-run, point-size, most, log-short, sum-size, begun-converging, begun-entry, begun-short}
-use Rattle.logarithm.specs.Close.{Accepted, cone, M-is}
+use Rattle.logarithm.specs.Convergence.{converging-run, point-size, most, log-short, sum-size, begun-converging, begun-entry}
+use Rattle.logarithm.specs.Close.{Accepted, cone, M-is, begun-short}
 
 -- ---- what the parts ask and make
 abbrev pub turnOf : Point → Turn
@@ -264,7 +264,7 @@ module _ {F : ℕ} (wide : 11 ≤ F) {n : ℕ} {p : Point} (a : Accepted F (pos 
     small = λ j h. record {
       point = parts-weaken (point-size F (2 + j) _ (converging-run F steps _ (begun-converging F (omega arith) logs v (cone F wide a)) (2 + j) j (omega arith) (omega (arith, count .at-most, count .at-least))))
           (lin (two F ∷ []) (two-mono F 48 narrow & none) (search reify depth 20) tt);
-      sum = parts-weaken (within-parts (sum-size F (F - 8) (omega arith) steps entries _ (begun-short F (omega arith) logs v (cone F wide a) reciprocals) (2 + j) j
+      sum = parts-weaken (within-parts (sum-size F (F - 8) (omega arith) steps entries _ (begun-short F wide a steps logs reciprocals) (2 + j) j
           (omega arith) (omega (arith, count .at-most, count .at-least)))) (lin (two (F - 4) ∷ []) (two-mono (F - 4) 44 (omega arith) & none) (search reify depth 20) tt);
     };
   }
