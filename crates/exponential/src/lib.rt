@@ -61,12 +61,7 @@ pub fn exp(n: i64, exponent: Point, start: Point) -> Answer
     ) {
         return Answer::Refused(Refusal::Exponent);
     }
-    if !start.is_in_box(
-        -288230376151711744,
-        288230376151711744,
-        -288230376151711744,
-        288230376151711744,
-    ) {
+    if !start.is_in_parts() {
         return Answer::Refused(Refusal::Part);
     }
     let steps = n as usize;

@@ -86,7 +86,10 @@ back-low t u h = ap (λ a. cond a (pos 1) (cond (leZ t u) (negsuc 0) (pos 0))) h
 
 pub back-high : (t u : ℤ) → pos 1 ⩽ t → leZ t u ≡ true → cut-back t u ≡ negsuc 0
 unfolding cut-back
-back-high t u g h = ap₂ (λ a b. cond a (pos 1) (cond b (negsuc 0) (pos 0))) (lt-leZ {x = u} {y = negℤ t} (lin< (t ∷ u ∷ []) (g & leZ-true {x = t} {y = u} h & none) (search reify depth 20) tt)) h
+back-high t u g h = ap₂ (λ a b. cond a (pos 1) (cond b (negsuc 0) (pos 0))) (lt-leZ above) h
+  where
+    above : negℤ t ⋖ u
+    above = lin< (t ∷ u ∷ []) (g & leZ-true {x = t} {y = u} h & none) (search reify depth 20) tt
 
 pub back-mid : (t u : ℤ) → leZ u (negℤ t) ≡ false → leZ t u ≡ false → cut-back t u ≡ pos 0
 unfolding cut-back

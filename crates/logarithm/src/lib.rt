@@ -55,12 +55,7 @@ pub fn log(n: i64, p: Point) -> Answer
     if !point::is_between(3, 40, n) {
         return Answer::Refused(Refusal::Steps);
     }
-    if !p.is_in_box(
-        -288230376151711744,
-        288230376151711744,
-        -288230376151711744,
-        288230376151711744,
-    ) {
+    if !p.is_in_parts() {
         return Answer::Refused(Refusal::Part);
     }
     if p.is_in_box(0, 0, 0, 0) {

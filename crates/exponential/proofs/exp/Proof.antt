@@ -7,7 +7,7 @@ use lib.IntN.{pos, natAbs}
 use borrow.Author.Tests.{not-true, not-false}
 use Rattle.word.specs.Fits.{back, sfits-mag}
 use Rattle.point.specs.Point.{gauss}
-use Rattle.point.specs.Limits.{inSteps, inParts, steps-say, parts-say}
+use Rattle.point.specs.Limits.{inSteps, steps-say, parts-say}
 use Rattle.answer.specs.declared.Answer.the-variants.{Answered}
 use Rattle.entries.specs.Table.{stepTable}
 use Rattle.entries.specs.Promise48.{step-promise}
@@ -30,11 +30,10 @@ inside c = sym (c .before .is-in-box .ensures) ∙ not-false _ (c .if2 .left)
 
 accepted : (c : tie.Else3) → let s = c .before .before .before .before .before .before in
     Accepted 48 (s .args .n) (gauss (s .args .exponent)) (gauss (s .args .start))
-unfolding inParts
 accepted c = record {
   steps = counted (c .before .before .before .before);
   rectangle = inside (c .before .before);
-  start = sym (c .before .is-in-box2 .ensures) ∙ not-false _ (c .if3 .left);
+  start = sym (c .before .is-in-parts .ensures) ∙ not-false _ (c .if3 .left);
 }
 
 is-between-requires : tie.Need-is-between-requires
@@ -61,15 +60,14 @@ returns-2 c =
     settled (a .n) (a .exponent .x) (a .exponent .y) (a .start .x) (a .start .y)
     (refused-exponent 48 stepTable (a .n) (gauss (a .exponent)) (gauss (a .start)) (counted b) t)
 
-is-in-box-requires-2 : tie.Need-is-in-box-requires-2
-is-in-box-requires-2 c κs = search needs
+is-in-parts-requires : tie.Need-is-in-parts-requires
+is-in-parts-requires c κs = search needs
 
 returns-3 : tie.Need-returns-3
-unfolding inParts
 returns-3 c =
     let b = c .before .before in
     let a = b .before .before .before .before .args in
-    let t = sym (c .before .is-in-box2 .ensures) ∙ not-true _ (c .if3 .taken) in
+    let t = sym (c .before .is-in-parts .ensures) ∙ not-true _ (c .if3 .taken) in
     settled (a .n) (a .exponent .x) (a .exponent .y) (a .start .x) (a .start .y)
     (refused-part 48 stepTable (a .n) (gauss (a .exponent)) (gauss (a .start)) (counted (b .before .before)) (inside b) t)
 
@@ -116,7 +114,7 @@ exp-spec =
     returns
     is-in-box-requires
     returns-2
-    is-in-box-requires-2
+    is-in-parts-requires
     returns-3
     cast-steps
     run-requires

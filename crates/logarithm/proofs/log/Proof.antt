@@ -24,15 +24,14 @@ counted c = let s = c .before .before in ap (between (pos 3) (pos 40)) (sym (bac
     (sym (c .before .is-between .ensures) ∙ not-false _ (c .if1 .left))
 
 inside : (c : tie.Else2) → inParts 48 (gauss (c .before .before .before .before .args .p)) ≡ true
-unfolding inParts
-inside c = sym (c .before .is-in-box .ensures) ∙ not-false _ (c .if2 .left)
+inside c = sym (c .before .is-in-parts .ensures) ∙ not-false _ (c .if2 .left)
 
 allowed : (c : tie.Else3) → let s = c .before .before .before .before .before .before in Accepted 48 (s .args .n) (gauss (s .args .p))
 unfolding isZero
 allowed c = record {
   steps = counted (c .before .before .before .before);
   parts = inside (c .before .before);
-  nonzero = sym (c .before .is-in-box2 .ensures) ∙ c .if3 .left;
+  nonzero = sym (c .before .is-in-box .ensures) ∙ c .if3 .left;
 }
 
 -- ---- the needs
@@ -48,19 +47,18 @@ returns c =
     settled (a .n) (a .p .x) (a .p .y) (refused-steps 48 stepTable reciprocalTable (a .n) (gauss (a .p))
     (ap (between (pos 3) (pos 40)) (sym (back (s .fits .n))) ∙ (sym (b .is-between .ensures) ∙ not-true _ (c .if1 .taken))))
 
-is-in-box-requires : tie.Need-is-in-box-requires
-is-in-box-requires c κs = search needs
+is-in-parts-requires : tie.Need-is-in-parts-requires
+is-in-parts-requires c κs = search needs
 
 returns-2 : tie.Need-returns-2
-unfolding inParts
 returns-2 c =
     let b = c .before in
     let a = b .before .before .before .args in
     settled (a .n) (a .p .x) (a .p .y) (refused-part 48 stepTable reciprocalTable (a .n) (gauss (a .p)) (counted (b .before))
-    (sym (b .is-in-box .ensures) ∙ not-true _ (c .if2 .taken)))
+    (sym (b .is-in-parts .ensures) ∙ not-true _ (c .if2 .taken)))
 
-is-in-box-requires-2 : tie.Need-is-in-box-requires-2
-is-in-box-requires-2 c κs = search needs
+is-in-box-requires : tie.Need-is-in-box-requires
+is-in-box-requires c κs = search needs
 
 returns-3 : tie.Need-returns-3
 unfolding isZero
@@ -69,7 +67,7 @@ returns-3 c =
     let e = b .before in
     let a = e .before .before .before .before .args in
     settled (a .n) (a .p .x) (a .p .y) (refused-zero 48 stepTable reciprocalTable (a .n) (gauss (a .p)) (counted (e .before .before)) (inside e)
-    (sym (b .is-in-box2 .ensures) ∙ c .if3 .taken))
+    (sym (b .is-in-box .ensures) ∙ c .if3 .taken))
 
 cast-accepted : tie.Need-cast-accepted
 cast-accepted c =
@@ -91,4 +89,4 @@ returns-4 c =
     ∙ sym (ap Answered (c .accepted .ensures ∙ ap (λ n. figuresOf (natAbs n) (a .p)) (back (s .fits .n)))))
 
 pub log-spec : {M : Type 1} → statement M
-log-spec = tie.close (tie.spec is-between-requires returns is-in-box-requires returns-2 is-in-box-requires-2 returns-3 cast-accepted accepted-requires returns-4)
+log-spec = tie.close (tie.spec is-between-requires returns is-in-parts-requires returns-2 is-in-box-requires returns-3 cast-accepted accepted-requires returns-4)
