@@ -2,7 +2,12 @@
 use mathlib.Core.Path.{_≡_, refl}
 use mathlib.Core.Bool.{Bool, true, _&&_}
 use Prim.Native.Nat.{ℕ, _+_, _-_, _≤_}
+use native.Mathlib.Omega.{arith}
+use lib.Dec.{T}
 use lib.IntN.{ℤ, pos, negsuc, negℤ, natAbs}
+use lib.Signed.{nonNeg}
+use mir.Syntax.{w64}
+use mir.Val.{Fits}
 use Rattle.algebra.specs.Test.{both-true}
 use Rattle.algebra.specs.Gauss.{𝔾}
 use Rattle.algebra.specs.Order.{_⩽_, pos-inj-le}
@@ -23,6 +28,12 @@ pub steps-say : (F least : ℕ) (n : ℤ) → inSteps F least n ≡ true → Cou
 unfolding inSteps
 steps-say F least (pos n) e = let h = between-true e in record { whole = refl; at-least = pos-inj-le (h .0); at-most = pos-inj-le (h .1) }
 steps-say F least (negsuc n) e = absurd (between-true e .0 .le)
+
+-- so the code may cast it
+pub steps-cast : (F least : ℕ) (n : ℤ) → F ≤ 48 → inSteps F least n ≡ true → T (nonNeg n) × Fits w64 (natAbs n)
+unfolding inSteps
+steps-cast F least (pos n) h e = (tt, record { fits = omega (arith, pos-inj-le (between-true e .1)) })
+steps-cast F least (negsuc n) h e = absurd (between-true e .0 .le)
 
 -- ---- a box: the real part from left to right, the imaginary part from bottom to top
 unfoldable pub inBox : ℤ → ℤ → ℤ → ℤ → 𝔾 → Bool

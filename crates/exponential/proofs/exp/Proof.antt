@@ -7,7 +7,7 @@ use lib.IntN.{pos, natAbs}
 use borrow.Author.Tests.{not-true, not-false}
 use Rattle.word.specs.Fits.{back, sfits-mag}
 use Rattle.point.specs.Point.{gauss}
-use Rattle.point.specs.Limits.{inSteps, steps-say, parts-say}
+use Rattle.point.specs.Limits.{inSteps, steps-say, steps-cast, parts-say}
 use Rattle.answer.specs.declared.Answer.the-variants.{Answered}
 use Rattle.entries.specs.Table.{stepTable}
 use Rattle.entries.specs.Promise48.{step-promise}
@@ -74,8 +74,7 @@ returns-3 c =
 cast-steps : tie.Need-cast-steps
 cast-steps c =
     let s = c .before .before .before .before .before .before in
-    let h = steps-say 48 1 (s .args .n) (accepted c .steps) in
-    rw (back (s .fits .n), h .whole) (tt, record { fits = omega (arith, h .at-most) })
+    rw (back (s .fits .n)) (steps-cast 48 1 (s .args .n) (omega arith) (accepted c .steps))
 
 run-requires : tie.Need-run-requires
 run-requires c κs =

@@ -8,7 +8,7 @@ use borrow.Author.Tests.{not-true, not-false}
 use Rattle.word.specs.Fits.{back}
 use Rattle.word.specs.Compare.{between}
 use Rattle.point.specs.Point.{gauss}
-use Rattle.point.specs.Limits.{inSteps, inParts, steps-say}
+use Rattle.point.specs.Limits.{inSteps, inParts, steps-say, steps-cast}
 use Rattle.answer.specs.declared.Answer.the-variants.{Answered}
 use Rattle.entries.specs.Table.{stepTable, reciprocalTable}
 use Rattle.logarithm.specs.Answer.{isZero}
@@ -72,8 +72,7 @@ returns-3 c =
 cast-accepted : tie.Need-cast-accepted
 cast-accepted c =
     let s = c .before .before .before .before .before .before in
-    let h = steps-say 48 3 (s .args .n) (allowed c .steps) in
-    rw (back (s .fits .n), h .whole) (tt, record { fits = omega (arith, h .at-most) })
+    rw (back (s .fits .n)) (steps-cast 48 3 (s .args .n) (omega arith) (allowed c .steps))
 
 accepted-requires : tie.Need-accepted-requires
 accepted-requires c κs =
