@@ -48,7 +48,7 @@ MADE = "Made by tests/tables/generate.py."
 SPEC_USES = """use mathlib.Core.List.{List, [], _∷_}
 use lib.IntN.{pos}
 use Rattle.algebra.specs.Gauss.{𝔾, gi}
-use Rattle.entries.specs.Listed.{neg}
+use Rattle.table_numbers.specs.Listed.{neg}
 """
 
 
@@ -99,8 +99,8 @@ def step_name(n, place):
 def source_head(about, definition):
     return f"""// {about} {MADE}
 ghost use mathlib.Core.Path.{{_≡_}};
-ghost use Rattle.entries.specs.Rows.{{{definition}}};
-use entries::Entry;
+ghost use Rattle.table_numbers.specs.Rows.{{{definition}}};
+use table_numbers::Entry;
 """
 
 
@@ -114,9 +114,9 @@ def array_source():
     out = [f"""// The array over n, each element three rows by dx of three entries by dy, at the width {WIDTH}: {PART} elements to a constant. {MADE}
 ghost use mathlib.Core.Path.{{_≡_}};
 ghost use Prim.Native.Nat.{{_<_, _+_}};
-ghost use Rattle.entries.specs.Rows.{{stepRow, part}};
-use entries::Entry;
-use step_rows::steps{WIDTH} as t;
+ghost use Rattle.table_numbers.specs.Rows.{{stepRow, part}};
+use crate::rows{WIDTH} as t;
+use table_numbers::Entry;
 """]
     for number, first in parts():
         matrices = "".join("    [%s],\n" % ", ".join(f"t::{step_name(n, place)}" for place in range(3)) for n in range(first, first + PART))
@@ -188,15 +188,17 @@ def reciprocal_logs_source():
 
 
 # ---- the proofs of the look-ups: in each arm the number is known, and the specification computes there to the arm's entries
-def arms_proof(function, uses, unfolds, definition, last, count):
+def arms_proof(function, uses, unfolds, definition, last, count, rows=None):
     crate, *path = function
     module = f"Rattle.{crate}.proofs." + ".".join(path)
     name = "-".join(path[-1].split("_")) + "-spec"
     arms = "".join(f"    (λ c. ap {definition} (sym (c .match .keys{i})))\n" for i in range(1, count + 1))
-    return f"""-- `{'::'.join(function)}` meets its contract: in each arm the number is known, and the specification computes there to what the arm
--- answers. {MADE}
+    rows = rows or definition
+    return f"""-- `{'::'.join(function)}` meets its contract: in each arm the number is known, and the
+-- specification computes there to what the arm answers. {MADE}
 use mathlib.Core.Path.{{sym, ap}}
-{uses}use Rattle.entries.specs.Rows.{{{definition}, {last}}}
+{uses}use Rattle.table_numbers.specs.Rows.{{{rows}}}
+use Rattle.table_numbers.proofs.RowLaws.{{{last}}}
 use {module}.Statement.{{statement}}
 use {module}.Tie as tie
 
@@ -210,23 +212,22 @@ unfolding {unfolds}
 
 
 def steps_proof():
-    uses = f"""use Rattle.entries.specs.Numbers{WIDTH}.{{stepLogs}}
-use Rattle.entries.specs.Table.{{stepTable}}
-use Rattle.entries.specs.Rows.{{stepRow}}
+    uses = f"""use Rattle.table_numbers.specs.Numbers{WIDTH}.{{stepLogs}}
+use Rattle.table_numbers.specs.Table.{{stepTable}}
 """
-    return arms_proof(("step_rows", f"steps{WIDTH}", "row_at"), uses, "stepRow stepTable stepLogs", "rowAt", "other-row", 3 * (WIDTH - 8))
+    return arms_proof(("step_table", f"rows{WIDTH}", "row_at"), uses, "stepRow stepTable stepLogs", "rowAt", "other-row", 3 * (WIDTH - 8), "stepRow, rowAt")
 
 
 def part_proof(number, first):
-    module = f"Rattle.step_array.proofs.parts{WIDTH}.part_{number}"
+    module = f"Rattle.step_table.proofs.array{WIDTH}.part_{number}"
     needs = ("mul-result", "mul-result-2", "index-1-result", "index-2-result")
     answers = "".join(f"{need} : tie.Need-{need}\n{need} c = search needs\n\n" for need in needs)
-    return f"""-- `step_array::parts{WIDTH}::part_{number}` meets its contract: the array is the specification's. {MADE}
+    return f"""-- `step_table::array{WIDTH}::part_{number}` meets its contract: the array is the specification's. {MADE}
 use borrow.Author.Needs.{{needs}}
-use Rattle.entries.specs.Numbers{WIDTH}.{{stepLogs}}
-use Rattle.entries.specs.Table.{{stepTable}}
-use Rattle.entries.specs.Rows.{{stepRow}}
-use Rattle.step_array.specs.Matrices.{{matrices, matrices-at}}
+use Rattle.table_numbers.specs.Numbers{WIDTH}.{{stepLogs}}
+use Rattle.table_numbers.specs.Table.{{stepTable}}
+use Rattle.table_numbers.specs.Rows.{{stepRow}}
+use Rattle.step_table.proofs.Matrices.{{matrices, matrices-at}}
 use {module}.Statement.{{statement}}
 use {module}.Tie as tie
 
@@ -240,29 +241,29 @@ part-{number}-spec = tie.close (tie.spec {' '.join(needs)} returns)
 
 
 def cells_proof(function, numbers, module, definition, last):
-    return arms_proof(function, f"use Rattle.entries.specs.{module}.{{{numbers}}}\n", numbers, definition, last, 256)
+    return arms_proof(function, f"use Rattle.table_numbers.specs.{module}.{{{numbers}}}\n", numbers, definition, last, 256)
 
 
 def reciprocals_proof():
-    return cells_proof(("cells", "reciprocals", "reciprocal_at"), "reciprocals", "Reciprocals", "reciprocalAt", "other-reciprocal")
+    return cells_proof(("reciprocal_table", "reciprocals", "reciprocal_at"), "reciprocals", "Reciprocals", "reciprocalAt", "other-reciprocal")
 
 
 def reciprocal_logs_proof():
-    return cells_proof(("cells", f"reciprocal_logs{WIDTH}", "reciprocal_log_at"), "reciprocalLogs", f"Numbers{WIDTH}", "reciprocalLogAt", "other-log")
+    return cells_proof(("reciprocal_table", f"reciprocal_logs{WIDTH}", "reciprocal_log_at"), "reciprocalLogs", f"Numbers{WIDTH}", "reciprocalLogAt", "other-log")
 
 
 FILES = {
-    f"entries/specs/Numbers{WIDTH}.antt": numbers_spec,
-    "entries/specs/Reciprocals.antt": reciprocals_spec,
-    f"step_rows/src/steps{WIDTH}.rt": steps_source,
-    "cells/src/reciprocals.rt": reciprocals_source,
-    f"cells/src/reciprocal_logs{WIDTH}.rt": reciprocal_logs_source,
-    f"step_rows/proofs/steps{WIDTH}/row_at/Proof.antt": steps_proof,
-    "cells/proofs/reciprocals/reciprocal_at/Proof.antt": reciprocals_proof,
-    f"cells/proofs/reciprocal_logs{WIDTH}/reciprocal_log_at/Proof.antt": reciprocal_logs_proof,
-    f"step_array/src/parts{WIDTH}.rt": array_source,
+    f"table_numbers/specs/Numbers{WIDTH}.antt": numbers_spec,
+    "table_numbers/specs/Reciprocals.antt": reciprocals_spec,
+    f"step_table/src/rows{WIDTH}.rt": steps_source,
+    "reciprocal_table/src/reciprocals.rt": reciprocals_source,
+    f"reciprocal_table/src/reciprocal_logs{WIDTH}.rt": reciprocal_logs_source,
+    f"step_table/proofs/rows{WIDTH}/row_at/Proof.antt": steps_proof,
+    "reciprocal_table/proofs/reciprocals/reciprocal_at/Proof.antt": reciprocals_proof,
+    f"reciprocal_table/proofs/reciprocal_logs{WIDTH}/reciprocal_log_at/Proof.antt": reciprocal_logs_proof,
+    f"step_table/src/array{WIDTH}.rt": array_source,
 } | {
-    f"step_array/proofs/parts{WIDTH}/part_{number}/Proof.antt": functools.partial(part_proof, number, first) for number, first in parts()
+    f"step_table/proofs/array{WIDTH}/part_{number}/Proof.antt": functools.partial(part_proof, number, first) for number, first in parts()
 }
 
 

@@ -1,10 +1,6 @@
--- Complex whole numbers (Gaussian integers): a commutative ring, with conjugate, multiplication by i, squared length and inner product.
-use mathlib.Core.Path.{_≡_, refl}
-use mathlib.Core.List.{List, [], _∷_}
+-- Complex whole numbers.
+use Prim.Native.Nat.{ℕ, zero, suc, _^_}
 use lib.IntN.{ℤ, pos, _+ℤ_, _-ℤ_, _*ℤ_, negℤ}
-use Rattle.algebra.specs.Ring.{Ring}
-use Rattle.algebra.specs.Integer.{ℤR}
-use Rattle.algebra.specs.Solver.{E, X, K, _:+_, _:-_, _:*_, :neg, ring, den, nf, Zero}
 
 pub record 𝔾 : Type 0 where
   pub re : ℤ
@@ -13,9 +9,6 @@ pub record 𝔾 : Type 0 where
 -- a + ib
 abbrev pub gi : ℤ → ℤ → 𝔾
 gi a b = record { re = a; im = b }
-
-pub gi-path : {z w : 𝔾} → z .re ≡ w .re → z .im ≡ w .im → z ≡ w
-gi-path p q = λ i. record { re = p i; im = q i }
 
 infixl 6 _+ᵍ_ _-ᵍ_
 infixl 7 _*ᵍ_
@@ -31,160 +24,29 @@ negᵍ z = record { re = negℤ (z .re); im = negℤ (z .im) }
 abbrev pub _-ᵍ_ : 𝔾 → 𝔾 → 𝔾
 z -ᵍ w = z +ᵍ negᵍ w
 
--- a real number
+-- a real number, and i
 unfoldable pub ιᵍ : ℤ → 𝔾
 ιᵍ n = record { re = n; im = pos 0 }
-
--- ---- the ring's laws, part by part: expressions for the two parts of a number
-record GE : Type 0 where
-  re : E
-  im : E
-
-abbrev gv : E → E → GE
-gv a b = record { re = a; im = b }
-
-abbrev _⊕_ : GE → GE → GE
-z ⊕ w = record { re = z .re :+ w .re; im = z .im :+ w .im }
-
-abbrev _⊗_ : GE → GE → GE
-z ⊗ w = record { re = z .re :* w .re :- z .im :* w .im; im = z .re :* w .im :+ z .im :* w .re }
-
-abbrev ⊖ : GE → GE
-⊖ z = record { re = :neg (z .re); im = :neg (z .im) }
-
-infixl 6 _⊕_
-infixl 7 _⊗_
-abbrev gk : ℤ → GE
-gk n = record { re = K n; im = K (pos 0) }
-
-abbrev x₀ : GE
-x₀ = record { re = X 0; im = X 1 }
-
-abbrev x₁ : GE
-x₁ = record { re = X 2; im = X 3 }
-
-abbrev x₂ : GE
-x₂ = record { re = X 4; im = X 5 }
-
-abbrev denᵍ : GE → List ℤ → 𝔾
-denᵍ e ρ = record { re = den ℤR (e .re) ρ; im = den ℤR (e .im) ρ }
-
-ringᵍ : (ρ : List ℤ) (a b : GE) → Zero (nf (a .re :- b .re)) → Zero (nf (a .im :- b .im)) → denᵍ a ρ ≡ denᵍ b ρ
-ringᵍ ρ a b p q = gi-path (ring ℤR ρ (a .re) (b .re) p) (ring ℤR ρ (a .im) (b .im) q)
-
-abbrev ρ₁ : 𝔾 → List ℤ
-ρ₁ z = z .re ∷ z .im ∷ []
-
-abbrev ρ₂ : 𝔾 → 𝔾 → List ℤ
-ρ₂ z w = z .re ∷ z .im ∷ w .re ∷ w .im ∷ []
-
-abbrev ρ₃ : 𝔾 → 𝔾 → 𝔾 → List ℤ
-ρ₃ z w u = z .re ∷ z .im ∷ w .re ∷ w .im ∷ u .re ∷ u .im ∷ []
-
-pub g-add-assoc : (a b c : 𝔾) → a +ᵍ b +ᵍ c ≡ a +ᵍ (b +ᵍ c)
-unfolding _+ᵍ_ _*ᵍ_ negᵍ ιᵍ
-g-add-assoc a b c = ringᵍ (ρ₃ a b c) (x₀ ⊕ x₁ ⊕ x₂) (x₀ ⊕ (x₁ ⊕ x₂)) tt tt
-
-pub g-add-comm : (a b : 𝔾) → a +ᵍ b ≡ b +ᵍ a
-unfolding _+ᵍ_ _*ᵍ_ negᵍ ιᵍ
-g-add-comm a b = ringᵍ (ρ₃ a b a) (x₀ ⊕ x₁) (x₁ ⊕ x₀) tt tt
-
-pub g-add-zero : (a : 𝔾) → a +ᵍ ιᵍ (pos 0) ≡ a
-unfolding _+ᵍ_ _*ᵍ_ negᵍ ιᵍ
-g-add-zero a = ringᵍ (ρ₁ a) (x₀ ⊕ gk (pos 0)) x₀ tt tt
-
-pub g-add-neg : (a : 𝔾) → a +ᵍ negᵍ a ≡ ιᵍ (pos 0)
-unfolding _+ᵍ_ _*ᵍ_ negᵍ ιᵍ
-g-add-neg a = ringᵍ (ρ₁ a) (x₀ ⊕ ⊖ x₀) (gk (pos 0)) tt tt
-
-pub g-mul-assoc : (a b c : 𝔾) → a *ᵍ b *ᵍ c ≡ a *ᵍ (b *ᵍ c)
-unfolding _+ᵍ_ _*ᵍ_ negᵍ ιᵍ
-g-mul-assoc a b c = ringᵍ (ρ₃ a b c) (x₀ ⊗ x₁ ⊗ x₂) (x₀ ⊗ (x₁ ⊗ x₂)) tt tt
-
-pub g-mul-comm : (a b : 𝔾) → a *ᵍ b ≡ b *ᵍ a
-unfolding _+ᵍ_ _*ᵍ_ negᵍ ιᵍ
-g-mul-comm a b = ringᵍ (ρ₃ a b a) (x₀ ⊗ x₁) (x₁ ⊗ x₀) tt tt
-
-pub g-mul-one : (a : 𝔾) → a *ᵍ ιᵍ (pos 1) ≡ a
-unfolding _+ᵍ_ _*ᵍ_ negᵍ ιᵍ
-g-mul-one a = ringᵍ (ρ₁ a) (x₀ ⊗ gk (pos 1)) x₀ tt tt
-
-pub g-add-mul : (a b c : 𝔾) → (a +ᵍ b) *ᵍ c ≡ a *ᵍ c +ᵍ b *ᵍ c
-unfolding _+ᵍ_ _*ᵍ_ negᵍ ιᵍ
-g-add-mul a b c = ringᵍ (ρ₃ a b c) ((x₀ ⊕ x₁) ⊗ x₂) (x₀ ⊗ x₂ ⊕ x₁ ⊗ x₂) tt tt
-
-pub g-ι-add : (m n : ℤ) → ιᵍ (m +ℤ n) ≡ ιᵍ m +ᵍ ιᵍ n
-unfolding _+ᵍ_ _*ᵍ_ negᵍ ιᵍ
-g-ι-add m n = refl
-
-pub g-ι-mul : (m n : ℤ) → ιᵍ (m *ℤ n) ≡ ιᵍ m *ᵍ ιᵍ n
-unfolding _+ᵍ_ _*ᵍ_ negᵍ ιᵍ
-g-ι-mul m n = ringᵍ (m ∷ n ∷ []) (gv (X 0 :* X 1) (K (pos 0))) (gv (X 0) (K (pos 0)) ⊗ gv (X 1) (K (pos 0))) tt tt
-
-pub g-ι-neg : (m : ℤ) → ιᵍ (negℤ m) ≡ negᵍ (ιᵍ m)
-unfolding _+ᵍ_ _*ᵍ_ negᵍ ιᵍ
-g-ι-neg m = refl
-
-abbrev pub 𝔾R : Ring
-𝔾R = record {
-  A = 𝔾;
-  add = _+ᵍ_;
-  mul = _*ᵍ_;
-  neg = negᵍ;
-  ι = ιᵍ;
-  add-assoc = g-add-assoc;
-  add-comm = g-add-comm;
-  add-zero = g-add-zero;
-  add-neg = g-add-neg;
-  mul-assoc = g-mul-assoc;
-  mul-comm = g-mul-comm;
-  mul-one = g-mul-one;
-  add-mul = g-add-mul;
-  ι-add = g-ι-add;
-  ι-mul = g-ι-mul;
-  ι-neg = g-ι-neg;
-}
-
--- ---- conjugate, and times i
-unfoldable pub conj : 𝔾 → 𝔾
-conj z = gi (z .re) (negℤ (z .im))
 
 abbrev pub iᵍ : 𝔾
 iᵍ = gi (pos 0) (pos 1)
 
-pub conj-mul : (z w : 𝔾) → conj (z *ᵍ w) ≡ conj z *ᵍ conj w
-unfolding conj _*ᵍ_
-conj-mul z w = ringᵍ (ρ₂ z w) (gv ((x₀ ⊗ x₁) .re) (:neg ((x₀ ⊗ x₁) .im))) (gv (x₀ .re) (:neg (x₀ .im)) ⊗ gv (x₁ .re) (:neg (x₁ .im))) tt tt
+unfoldable pub conj : 𝔾 → 𝔾
+conj z = gi (z .re) (negℤ (z .im))
 
-pub i-mul : (z : 𝔾) → iᵍ *ᵍ z ≡ gi (negℤ (z .im)) (z .re)
-unfolding _*ᵍ_
-i-mul z = ringᵍ (ρ₁ z) (gv (K (pos 0)) (K (pos 1)) ⊗ x₀) (gv (:neg (x₀ .im)) (x₀ .re)) tt tt
+-- z to the n
+infixl 8 _^ᵍ_
+unfoldable pub _^ᵍ_ : 𝔾 → ℕ → 𝔾
+z ^ᵍ zero = ιᵍ (pos 1)
+z ^ᵍ suc n = z ^ᵍ n *ᵍ z
 
--- ---- the square of the length, and the inner product
+-- the square of the length
 abbrev pub N : 𝔾 → ℤ
 N z = z .re *ℤ z .re +ℤ z .im *ℤ z .im
 
-abbrev pub dot : 𝔾 → 𝔾 → ℤ
-dot z w = z .re *ℤ w .re +ℤ z .im *ℤ w .im
+-- ---- 2^n
+abbrev pub two : ℕ → ℤ
+two n = pos (2 ^ n)
 
-abbrev Nᵉ : GE → E
-Nᵉ z = z .re :* z .re :+ z .im :* z .im
-
-abbrev dotᵉ : GE → GE → E
-dotᵉ z w = z .re :* w .re :+ z .im :* w .im
-
-pub N-mul : (z w : 𝔾) → N (z *ᵍ w) ≡ N z *ℤ N w
-unfolding _*ᵍ_
-N-mul z w = ring ℤR (ρ₂ z w) (Nᵉ (x₀ ⊗ x₁)) (Nᵉ x₀ :* Nᵉ x₁) tt
-
-pub N-add : (z w : 𝔾) → N (z +ᵍ w) ≡ N z +ℤ N w +ℤ pos 2 *ℤ dot z w
-unfolding _+ᵍ_
-N-add z w = ring ℤR (ρ₂ z w) (Nᵉ (x₀ ⊕ x₁)) (Nᵉ x₀ :+ Nᵉ x₁ :+ K (pos 2) :* dotᵉ x₀ x₁) tt
-
-pub N-conj : (z : 𝔾) → z *ᵍ conj z ≡ ιᵍ (N z)
-unfolding conj _*ᵍ_ ιᵍ
-N-conj z = ringᵍ (ρ₁ z) (x₀ ⊗ gv (x₀ .re) (:neg (x₀ .im))) (gv (Nᵉ x₀) (K (pos 0))) tt tt
-
-pub N-scale : (c : ℤ) (z : 𝔾) → N (ιᵍ c *ᵍ z) ≡ c *ℤ c *ℤ N z
-unfolding _*ᵍ_ ιᵍ
-N-scale c z = ring ℤR (c ∷ z .re ∷ z .im ∷ []) (Nᵉ (gv (X 0) (K (pos 0)) ⊗ gv (X 1) (X 2))) (X 0 :* X 0 :* Nᵉ (gv (X 1) (X 2))) tt
+abbrev pub twoᵍ : ℕ → 𝔾
+twoᵍ n = ιᵍ (two n)

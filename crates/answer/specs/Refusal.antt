@@ -1,5 +1,4 @@
 -- Inputs that are turned away (01, Turned away, by operation).
-use mathlib.Core.Path.{_≡_, refl}
 use mathlib.Core.Bool.{Bool, true, false}
 use lib.IntN.{ℤ, pos}
 use Rattle.answer.specs.declared.Refusal.{Refusal}
@@ -18,8 +17,3 @@ refusalNumber Zero = pos 4
 abbrev pub unless : Bool → Refusal → Answer → Answer
 unless true r a = a
 unless false r a = Refused r
-
--- what holds of the refusal, and of the answer where the test holds
-pub unless-keeps : (P : Answer → Type 0) (b : Bool) (r : Refusal) (a : Answer) → P (Refused r) → (b ≡ true → P a) → P (unless b r a)
-unless-keeps P true r a h k = k refl
-unless-keeps P false r a h k = h

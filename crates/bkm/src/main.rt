@@ -1,28 +1,29 @@
 // Answers a sheet: standard input to standard output.
 ghost use mathlib.Core.Path.{_≡_};
 ghost use Prim.Native.Nat.{_≤_};
-ghost use lib.ListN.{length, take};
-ghost use Rattle.stream.specs.Sheet.{left};
-ghost use Rattle.stream.specs.State.{line};
+ghost use lib.ListN.{length};
+ghost use Rattle.text.specs.Answer.{answer-room};
+ghost use Rattle.stream.specs.Machine.{cut, placeAfter};
+ghost use Rattle.stream.specs.Sheet.{machine, placeOf};
 use libc::STDIN_FILENO;
 use libc::STDOUT_FILENO;
-use stream::Held;
+use stream::Place;
 
-// Feeds all of a block and writes its answers; the line that it leaves begun.
-fn answer_block(h: Held, block: &[u8], out: &mut [u8]) -> Held
-    requires { ⌜ 128 ≤ length (now out) ⌝ }
-    ensures { λ r. ⌜ take 117 (line r) ≡ take 117 (left (line h) (now (block .entry))) ⌝ }
+// Feeds all of a block and writes its answers; the place in the sheet that it leads to.
+fn answer_block(place: Place, block: &[u8], out: &mut [u8]) -> Place
+    requires { ⌜ answer-room ≤ length (now out) ⌝ }
+    ensures { λ r. ⌜ cut (placeOf r) ≡ cut (placeAfter machine (placeOf place) (now (block .entry))) ⌝ }
 {
-    let mut held = h;
+    let mut here = place;
     let mut at: usize = 0;
     while at < block.len() {
-        let f = stream::feed(held, &block[at..], out);
+        let f = stream::feed(here, &block[at..], out);
         let n = f.written;
         io::write_all(STDOUT_FILENO, &out[..n]);
-        held = f.held;
+        here = f.place;
         at = at + f.read;
     }
-    held
+    here
 }
 
 fn main() {
@@ -30,7 +31,7 @@ fn main() {
     let mut out = [0u8; 65536];
     let n = stream::open(&mut out);
     io::write_all(STDOUT_FILENO, &out[..n]);
-    let mut held = stream::empty();
+    let mut place = stream::empty();
     let mut turns = u64::MAX;
     while 0 < turns {
         let got = libc::read(STDIN_FILENO, &mut block);
@@ -38,10 +39,10 @@ fn main() {
             turns = 0;
         } else {
             let n = io::count(got, &block);
-            held = answer_block(held, &block[..n], &mut out);
+            place = answer_block(place, &block[..n], &mut out);
             turns = turns - 1;
         }
     }
-    let n = stream::finish(held, &mut out);
+    let n = stream::finish(place, &mut out);
     io::write_all(STDOUT_FILENO, &out[..n]);
 }

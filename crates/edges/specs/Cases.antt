@@ -1,28 +1,19 @@
--- The P cases of 01 as one table, proved by one statement that ranges over it. The checker computes each case by the definitions alone.
-use mathlib.Core.Path.{_≡_, refl}
+-- The P cases of 01 as one table, and what it is for a case to hold.
+use mathlib.Core.Path.{_≡_}
 use mathlib.Core.List.{List, [], _∷_}
 use Prim.Native.Nat.{ℕ, _+_, _^_}
 use lib.IntN.{ℤ, pos, negℤ}
 use lib.ListN.{length}
-use Rattle.algebra.specs.Gauss.{𝔾, gi, ιᵍ, negᵍ, _+ᵍ_, _*ᵍ_}
-use Rattle.algebra.specs.Floor.{nearest}
-use Rattle.algebra.specs.Parts.{floorᵍ}
-use Rattle.word.specs.Compare.{between}
+use Rattle.algebra.specs.Gauss.{𝔾, gi}
 use Rattle.point.specs.Point.{gauss}
-use Rattle.point.specs.Step.{quotient, step}
-use Rattle.point.specs.Limits.{inSteps, inBox, inParts}
 use Rattle.answer.specs.Record.{recordOf, refusal-in}
-use Rattle.entries.specs.Numbers48.{stepLogs}
-use Rattle.entries.specs.Reciprocal.{reciprocal}
-use Rattle.entries.specs.Table.{stepTable, reciprocalTable}
+use Rattle.table_numbers.specs.Reciprocal.{reciprocal}
+use Rattle.table_numbers.specs.Table.{stepTable, reciprocalTable}
 use Rattle.iteration.specs.declared.Mode.the-variants.{Exp, Log}
-use Rattle.iteration.specs.Select.{exp-select, cut-back, log-select}
-use Rattle.iteration.specs.Run.{state, select, next, run, digits}
-use Rattle.exponential.specs.Answer.{inRectangle, answer, expAnswer}
-use Rattle.logarithm.specs.Quadrant.{turn-back, turns-back, quarters, turned, spelling, quadrant}
-use Rattle.logarithm.specs.Scale.{bits-from, bits, bit-length, binary-exponent, scaled}
-use Rattle.logarithm.specs.Cell.{column, row, reduced}
-use Rattle.logarithm.specs.Answer.{begun, isZero, answer as log-answer, logAnswer}
+use Rattle.iteration.specs.Run.{state, run, digits}
+use Rattle.exponential.specs.Answer.{expAnswer}
+use Rattle.logarithm.specs.Reduction.{turned, quadrant, binary-exponent}
+use Rattle.logarithm.specs.Answer.{begun, logAnswer}
 
 -- ---- what a case says
 pub data Case : Type 0 where
@@ -74,7 +65,8 @@ cases =
     ∷ log-refusal (pos 3) one (pos 0)
     -- "digits 1, 1+i, −1, i, i, 0, −1, 0 open it (figure 1 of 001)"
     ∷ exp-digits figure
-    (gi (pos 1) (pos 0) ∷ gi (pos 1) (pos 1) ∷ gi (minus 1) (pos 0) ∷ gi (pos 0) (pos 1) ∷ gi (pos 0) (pos 1) ∷ nought ∷ gi (minus 1) (pos 0) ∷ nought ∷ [])
+    (gi (pos 1) (pos 0) ∷ gi (pos 1) (pos 1) ∷ gi (minus 1) (pos 0) ∷ gi (pos 0) (pos 1) ∷ gi (pos 0) (pos 1)
+    ∷ nought ∷ gi (minus 1) (pos 0) ∷ nought ∷ [])
     -- "one as its start after three of these steps: 1.640625 + 0.328125i", which is (105 + 21i)/64
     ∷ exp-start figure one 3 (gi (pos 461794883665920) (pos 92358976733184))
     -- "LOG of (0, 5): q = 1; (5, 5): 0; (5, −5): 3; (−1, 0): 2 and k = −47"
@@ -105,10 +97,3 @@ Holds (seat X Y c) = reciprocal X Y ≡ c
 abbrev pub All : List Case → Type 0
 All [] = Unit {0}
 All (c ∷ cs) = Holds c × All cs
-
--- THE STATEMENT: every case of the table holds
-pub cases-hold : All cases
-unfolding recordOf expAnswer answer inSteps inRectangle inParts inBox between logAnswer log-answer isZero digits run next select exp-select log-select cut-back stepTable stepLogs step quotient
-    quadrant spelling quarters turned turns-back turn-back binary-exponent bit-length bits bits-from scaled reduced column row reciprocal nearest floorᵍ
-    ιᵍ negᵍ _+ᵍ_ _*ᵍ_
-cases-hold = (refl, (refl, (refl, (refl, (refl, (refl, (refl, (refl, (refl, (refl, (refl, (refl, (refl, (refl, (refl, (refl, (refl, (refl, (refl, (refl, (refl, (refl, (refl, (refl, tt))))))))))))))))))))))))

@@ -2,12 +2,10 @@
 use mathlib.Core.Bool.{Bool}
 use Prim.Native.Nat.{ℕ, _-_, _^_, _≤_}
 use lib.IntN.{ℤ, pos, negℤ, natAbs, _+ℤ_, _*ℤ_}
-use Rattle.algebra.specs.Gauss.{𝔾, gi, _-ᵍ_, _*ᵍ_}
+use Rattle.algebra.specs.Gauss.{𝔾, gi, _-ᵍ_, _*ᵍ_, two}
 use Rattle.algebra.specs.Order.{_⩽_}
-use Rattle.algebra.specs.Power.{two}
-use Rattle.algebra.specs.Floor.{ceiling}
-use Rattle.algebra.specs.Parts.{abs}
-use Rattle.algebra.specs.Larger.{larger}
+use Rattle.algebra.specs.Rounding.{ceiling}
+use Rattle.algebra.specs.Size.{abs, larger}
 use Rattle.series.specs.Series.{Sᵍ, Dᵍ, Dᶻ}
 use Rattle.point.specs.Point.{gauss}
 use Rattle.point.specs.Limits.{inSteps, inBox, inParts}
@@ -16,20 +14,19 @@ use Rattle.answer.specs.declared.Figures.{Figures}
 use Rattle.answer.specs.declared.Answer.{Answer}
 use Rattle.answer.specs.declared.Answer.the-variants.{Answered, Refused}
 use Rattle.answer.specs.Refusal.{unless}
-use Rattle.entries.specs.Promise.{StepTable}
-use Rattle.entries.specs.Table.{stepTable}
+use Rattle.table_numbers.specs.Promise.{StepTable}
+use Rattle.table_numbers.specs.Table.{stepTable}
 use Rattle.iteration.specs.declared.State.{State}
 use Rattle.iteration.specs.declared.Mode.the-variants.{Exp}
 use Rattle.iteration.specs.Run.{rounding-share, state, run}
 
 -- ---- the limits, all ends included (one is 2^F units; 01 has F = 48): "N is 1 to 40" is inSteps F 1, and "Each start part is at most 2^58
 -- in size" is inParts F (point, Limits)
--- "ex lies from −53/64 to 55/64", "ey is at most 47/64 in size"
+-- "ex lies from −53/64 to 55/64, that is −233096465088512 to 241892558110720 units; ey is at most 47/64 in size, 206708186021888 units"
 unfoldable pub inRectangle : ℕ → 𝔾 → Bool
 inRectangle F e = inBox (negℤ (pos 53 *ℤ two (F - 6))) (pos 55 *ℤ two (F - 6)) (negℤ (pos 47 *ℤ two (F - 6))) (pos 47 *ℤ two (F - 6)) e
 
--- ---- the error bound, the "column" of 01
--- "8M/2^N rounded up to a whole number, plus 3N"
+-- ---- the error bound, the "column" of 01: "8M/2^N rounded up to a whole number, plus 3N, M being the start's larger part in size"
 unfoldable pub errorBound : ℕ → 𝔾 → ℤ
 errorBound n s = ceiling (pos 8 *ℤ larger s) (2 ^ n) +ℤ rounding-share *ℤ pos n
 
@@ -41,11 +38,17 @@ module _ (F : ℕ) (t : StepTable) where
 
   -- "The answer is the last start"; "k, q (both 0 for EXP)"
   abbrev pub figures : ℕ → 𝔾 → 𝔾 → Figures
-  figures n e s = record { value = ended n e s .point; «binary_exponent» = pos 0; quadrant = pos 0; «error_bound» = errorBound n s }
+  figures n e s = record {
+    value = ended n e s .point;
+    «binary_exponent» = pos 0;
+    quadrant = pos 0;
+    «error_bound» = errorBound n s;
+  }
 
   -- "first 1, N outside 1 to 40; then 2, exponent outside the rectangle; then 3, a start part over 2^58 in size"
   unfoldable pub answer : ℤ → 𝔾 → 𝔾 → Answer
-  answer n e s = unless (inSteps F 1 n) Steps (unless (inRectangle F e) Exponent (unless (inParts F s) Part (Answered (figures (natAbs n) e s))))
+  answer n e s = unless (inSteps F 1 n) Steps (unless (inRectangle F e) Exponent
+      (unless (inParts F s) Part (Answered (figures (natAbs n) e s))))
 
 -- of exp (n, (ex, ey), (sx, sy))
 unfoldable pub expAnswer : ℤ → ℤ → ℤ → ℤ → ℤ → Answer

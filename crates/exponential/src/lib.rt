@@ -1,9 +1,8 @@
 // EXP: a start times the exponential of a number in a rectangle, by shifts and additions.
 ghost use mathlib.Core.Path.{_≡_};
 ghost use Prim.Native.Nat.{_≤_};
-ghost use Rattle.algebra.specs.Parts.{Size, Parts, abs};
-ghost use Rattle.algebra.specs.Larger.{larger};
-ghost use Rattle.algebra.specs.Power.{two};
+ghost use Rattle.algebra.specs.Size.{Size, Parts, abs, larger};
+ghost use Rattle.algebra.specs.Gauss.{two};
 ghost use Rattle.point.specs.Point.{gauss};
 ghost use Rattle.exponential.specs.Answer.{errorBound, expAnswer, Close};
 use answer::Answer;

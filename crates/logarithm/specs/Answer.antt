@@ -1,13 +1,11 @@
--- LOG as 01 states it, for every input: the limits, the error bound, the steps, the answer, and what it is close to.
+-- LOG as 01 states it: the limits, the error bound, the steps, the answer for every input, and what it is close to.
 use mathlib.Core.Bool.{Bool, not}
-use Prim.Native.Nat.{ℕ, _-_, _^_, _≤_}
-use lib.IntN.{ℤ, pos, natAbs, _*ℤ_}
-use Rattle.algebra.specs.Gauss.{𝔾, gi, ιᵍ, negᵍ, _-ᵍ_, _*ᵍ_}
+use Prim.Native.Nat.{ℕ, suc, _-_, _^_, _≤_}
+use lib.IntN.{ℤ, pos, negsuc, natAbs, _+ℤ_, _*ℤ_}
+use Rattle.algebra.specs.Gauss.{_^ᵍ_, 𝔾, gi, ιᵍ, iᵍ, negᵍ, _-ᵍ_, _*ᵍ_, two}
 use Rattle.algebra.specs.Order.{_⩽_}
-use Rattle.algebra.specs.Power.{two}
-use Rattle.algebra.specs.Floor.{ceiling}
-use Rattle.algebra.specs.Parts.{abs}
-use Rattle.algebra.specs.Larger.{larger}
+use Rattle.algebra.specs.Rounding.{ceiling}
+use Rattle.algebra.specs.Size.{abs, larger}
 use Rattle.series.specs.Series.{Sᵍ, Dᵍ, Dᶻ}
 use Rattle.point.specs.Point.{gauss}
 use Rattle.point.specs.Limits.{inSteps, inBox, inParts}
@@ -16,22 +14,20 @@ use Rattle.answer.specs.declared.Figures.{Figures}
 use Rattle.answer.specs.declared.Answer.{Answer}
 use Rattle.answer.specs.declared.Answer.the-variants.{Answered, Refused}
 use Rattle.answer.specs.Refusal.{unless}
-use Rattle.entries.specs.Promise.{StepTable, ReciprocalTable}
-use Rattle.entries.specs.Table.{stepTable, reciprocalTable}
+use Rattle.table_numbers.specs.Promise.{StepTable, ReciprocalTable}
+use Rattle.table_numbers.specs.Table.{stepTable, reciprocalTable}
 use Rattle.iteration.specs.declared.State.{State}
 use Rattle.iteration.specs.declared.Mode.the-variants.{Log}
 use Rattle.iteration.specs.Run.{state, run}
-use Rattle.logarithm.specs.Quadrant.{quadrant, turned, i^}
-use Rattle.logarithm.specs.Scale.{binary-exponent, scaled, power}
-use Rattle.logarithm.specs.Cell.{cellX, cellY, reduced}
+use Rattle.logarithm.specs.Reduction.{quadrant, turned, binary-exponent, scaled, cellX, cellY, reduced}
 
 -- ---- the limits (one is 2^F units; 01 has F = 48): "N from 3 to 40" is inSteps F 3, and "each part at most 2^58 in size" is inParts F
 -- (point, Limits)
--- both parts are zero
+-- the zero point, which "not both zero" shuts out
 unfoldable pub isZero : 𝔾 → Bool
 isZero p = inBox (pos 0) (pos 0) (pos 0) (pos 0) p
 
--- ---- the error bound, the "column" of 01: "3M/2^N rounded up"
+-- ---- the error bound, the "column" of 01: "3M/2^N rounded up, M being the given point's larger part in size"
 unfoldable pub errorBound : ℕ → 𝔾 → ℤ
 errorBound n p = ceiling (pos 3 *ℤ larger p) (2 ^ n)
 
@@ -47,7 +43,12 @@ module _ (F : ℕ) (steps : StepTable) (logs : ReciprocalTable) where
 
   -- "The answer is minus the seat's logarithm, less the entries of the steps taken, with k and q"
   abbrev pub figures : ℕ → 𝔾 → Figures
-  figures n p = record { value = ended n (turned p) .sum; «binary_exponent» = binary-exponent F (turned p); quadrant = quadrant p; «error_bound» = errorBound n p }
+  figures n p = record {
+    value = ended n (turned p) .sum;
+    «binary_exponent» = binary-exponent F (turned p);
+    quadrant = quadrant p;
+    «error_bound» = errorBound n p;
+  }
 
   -- "first 1, N outside 3 to 40; then 3, a part over 2^58 in size; then 4, the zero point"
   unfoldable pub answer : ℤ → 𝔾 → Answer
@@ -58,6 +59,15 @@ unfoldable pub logAnswer : ℤ → ℤ → ℤ → Answer
 logAnswer n x y = answer 48 stepTable reciprocalTable n (gi x y)
 
 -- ---- what demand 3 compares, at T terms: the exponential is S T/D T, and both sides are multiplied by the divisors 2^N and D T
+-- 2^(F+k)
+abbrev pub power : ℕ → ℤ → ℤ
+power F k = two (natAbs (pos F +ℤ k))
+
+-- i^q, q of either sign
+unfoldable pub i^ : ℤ → 𝔾
+i^ (pos n) = iᵍ ^ᵍ n
+i^ (negsuc n) = negᵍ iᵍ ^ᵍ suc n
+
 -- "2^(48+k)·i^q times the exact exponential of the answer, less the given point in units"
 abbrev pub miss : (F T : ℕ) (p : 𝔾) (f : Figures) → 𝔾
 miss F T p f = ιᵍ (power F (f .«binary_exponent»)) *ᵍ i^ (f .quadrant) *ᵍ Sᵍ (2 ^ F) T (gauss (f .value)) -ᵍ p *ᵍ Dᵍ (2 ^ F) T

@@ -1,20 +1,19 @@
 // The reduction of a point (01, LOG): turned into a cone, scaled, and brought near one by the reciprocal of its cell.
 ghost use mathlib.Core.Path.{_≡_};
 ghost use lib.IntN.{natAbs, pos};
-ghost use Rattle.algebra.specs.Gauss.{_*ᵍ_, negᵍ};
+ghost use Rattle.algebra.specs.Gauss.{_*ᵍ_, negᵍ, two};
 ghost use Rattle.algebra.specs.Order.{_⩽_};
-ghost use Rattle.algebra.specs.Power.{two};
-ghost use Rattle.algebra.specs.Parts.{Parts, floorᵍ};
+ghost use Rattle.algebra.specs.Size.{Parts};
+ghost use Rattle.algebra.specs.Rounding.{floorᵍ};
 ghost use Rattle.point.specs.Point.{gauss, point};
-ghost use Rattle.entries.specs.Rows.{number};
-ghost use Rattle.entries.specs.Table.{reciprocalTable};
-ghost use Rattle.logarithm.specs.Quadrant.{inCone, turn-back};
-ghost use Rattle.logarithm.specs.Scale.{bits, scaled};
+ghost use Rattle.table_numbers.specs.Rows.{number};
+ghost use Rattle.table_numbers.specs.Table.{reciprocalTable};
+ghost use Rattle.logarithm.specs.Reduction.{inCone, turn-back, bits, scaled};
 ghost use Rattle.logarithm.specs.Answer.{begun};
-ghost use Rattle.logarithm.specs.Fits.{turnOf, ScalePre, ReducePre};
-use entries::Entry;
+ghost use Rattle.logarithm.specs.Code.{turnOf, ScalePre, ReducePre};
 use iteration::State;
 use point::Point;
+use table_numbers::Entry;
 
 // ---- the turn
 
@@ -131,7 +130,8 @@ fn negated(t: Entry) -> Point
     Point { x: -re, y: -im }
 }
 
-// What the steps start from: the turned point scaled and brought near one, and minus the logarithm of the reciprocal. A cell is 2^44 units wide.
+// What the steps start from: the turned point scaled and brought near one, and minus the logarithm of the reciprocal. A cell is 2^44 units
+// wide.
 pub fn begun(w: Point, b: usize) -> State
     requires { ⌜ ScalePre 48 w b ⌝ }
     ensures { λ r. ⌜ r ≡ begun 48 reciprocalTable (gauss w) ⌝ }

@@ -1,7 +1,5 @@
--- Points, digits and the step: the definitions over ℤ that the code meets, and the laws that the engines cite.
--- How a step rounds stands in `Step.quotient` and its two laws, and in the code's `rounded`; nothing else looks inside.
+-- Points, digits, the step and the limits, over ℤ. Read beside 01 (Points and units; The step; the limits of EXP and LOG) in this order.
+pub mod Point
 pub mod Digit
 pub mod Step
-pub mod Fits
-pub mod Point
 pub mod Limits

@@ -1,58 +1,18 @@
--- The limits of 01 on inputs, as tests, and what each says. All ends are included. The width is F: one is 2^F units, and 01 has F = 48.
-use mathlib.Core.Path.{_≡_, refl}
-use mathlib.Core.Bool.{Bool, true, _&&_}
-use Prim.Native.Nat.{ℕ, _+_, _-_, _≤_}
-use native.Mathlib.Omega.{arith}
-use lib.Dec.{T}
-use lib.IntN.{ℤ, pos, negsuc, negℤ, natAbs}
-use lib.Signed.{nonNeg}
-use mir.Syntax.{w64}
-use mir.Val.{Fits}
-use Rattle.algebra.specs.Test.{both-true}
-use Rattle.algebra.specs.Gauss.{𝔾}
-use Rattle.algebra.specs.Order.{_⩽_, pos-inj-le}
-use Rattle.algebra.specs.Power.{two}
-use Rattle.algebra.specs.Parts.{Parts}
-use Rattle.word.specs.Compare.{between, between-true, size-between}
+-- The limits of 01 on inputs, as tests, all ends included. The width is F: one is 2^F units, and 01 has F = 48.
+use mathlib.Core.Bool.{Bool, _&&_}
+use Prim.Native.Nat.{ℕ, _+_, _-_}
+use lib.IntN.{ℤ, pos, negℤ}
+use Rattle.algebra.specs.Gauss.{𝔾, two}
+use Rattle.word.specs.Compare.{between}
 
 -- ---- the count of steps: "N from 1 to 40" for EXP, "from 3 to 40" for LOG
 unfoldable pub inSteps : ℕ → ℕ → ℤ → Bool
 inSteps F least n = between (pos least) (pos (F - 8)) n
 
-pub record Counts (F least : ℕ) (n : ℤ) : Type 0 where
-  pub whole : n ≡ pos (natAbs n)
-  pub at-least : least ≤ natAbs n
-  pub at-most : natAbs n ≤ F - 8
-
-pub steps-say : (F least : ℕ) (n : ℤ) → inSteps F least n ≡ true → Counts F least n
-unfolding inSteps
-steps-say F least (pos n) e = let h = between-true e in record { whole = refl; at-least = pos-inj-le (h .0); at-most = pos-inj-le (h .1) }
-steps-say F least (negsuc n) e = absurd (between-true e .0 .le)
-
--- so the code may cast it
-pub steps-cast : (F least : ℕ) (n : ℤ) → F ≤ 48 → inSteps F least n ≡ true → T (nonNeg n) × Fits w64 (natAbs n)
-unfolding inSteps
-steps-cast F least (pos n) h e = (tt, record { fits = omega (arith, pos-inj-le (between-true e .1)) })
-steps-cast F least (negsuc n) h e = absurd (between-true e .0 .le)
-
 -- ---- a box: the real part from left to right, the imaginary part from bottom to top
 unfoldable pub inBox : ℤ → ℤ → ℤ → ℤ → 𝔾 → Bool
 inBox left right bottom top z = between left right (z .re) && between bottom top (z .im)
 
-pub record Inside (left right bottom top : ℤ) (z : 𝔾) : Type 0 where
-  pub re-lo : left ⩽ z .re
-  pub re-hi : z .re ⩽ right
-  pub im-lo : bottom ⩽ z .im
-  pub im-hi : z .im ⩽ top
-
-pub box-says : {left right bottom top : ℤ} {z : 𝔾} → inBox left right bottom top z ≡ true → Inside left right bottom top z
-unfolding inBox
-box-says t = let p = both-true t in let x = between-true (p .0) in let y = between-true (p .1) in record { re-lo = x .0; re-hi = x .1; im-lo = y .0; im-hi = y .1 }
-
 -- ---- "each part at most 2^58 in size"
 unfoldable pub inParts : ℕ → 𝔾 → Bool
 inParts F z = inBox (negℤ (two (F + 10))) (two (F + 10)) (negℤ (two (F + 10))) (two (F + 10)) z
-
-pub parts-say : (F : ℕ) (z : 𝔾) → inParts F z ≡ true → Parts z (two (F + 10))
-unfolding inParts inBox
-parts-say F z t = let p = both-true t in record { re = size-between (p .0); im = size-between (p .1) }

@@ -1,70 +1,14 @@
--- The shift-and-add step (01, The step): z + floor(d·z / 2^n), each part by itself and both from the old pair.
-use mathlib.Core.List.{List, [], _∷_}
+-- The shift-and-add step (01, The step): "x + floor((dx·x − dy·y)/2^n), y + floor((dx·y + dy·x)/2^n), both from the old pair".
 use Prim.Native.Nat.{ℕ, _^_}
-use lib.IntN.{ℤ, pos, _+ℤ_, _-ℤ_, _*ℤ_}
+use lib.IntN.{ℤ, _+ℤ_, _-ℤ_, _*ℤ_}
 use lib.Signed.{shrZ}
-use Rattle.algebra.specs.Gauss.{𝔾, gi, _+ᵍ_, _-ᵍ_, _*ᵍ_, negᵍ, ιᵍ}
-use Rattle.algebra.specs.Reify.{reify}
-use Rattle.algebra.specs.Order.{_⩽_, nonneg-pos}
-use Rattle.algebra.specs.Linear.{lin, _&_, none}
-use Rattle.algebra.specs.Power.{two, twoᵍ, two-pos}
-use Rattle.algebra.specs.Floor.{floor-lo, floor-hi}
-use Rattle.algebra.specs.Parts.{Size, Parts, parts-cancel, parts-weaken}
-use Rattle.word.specs.Shift.{size-shift}
+use Rattle.algebra.specs.Gauss.{𝔾, gi}
 
--- ---- the rounding of a step's quotients: v/2^n by floor
+-- v/2^n, rounded as a step rounds: by floor
 unfoldable pub quotient : ℤ → ℕ → ℤ
 quotient v n = shrZ v (2 ^ n)
 
--- it is at most the quotient, and less than one unit below it
-pub record Rounded (v : ℤ) (n : ℕ) (q : ℤ) : Type 0 where
-  pub below : two n *ℤ q ⩽ v
-  pub near : v +ℤ pos 1 ⩽ two n *ℤ q +ℤ two n
-
-pub quotient-law : (v : ℤ) (n : ℕ) → Rounded v n (quotient v n)
-unfolding quotient
-quotient-law v n = record { below = floor-lo (2 ^ n) (two-pos n) v; near = floor-hi (2 ^ n) (two-pos n) v }
-
--- so it is off by at most this many half units
-abbrev pub half-units : ℤ
-half-units = pos 2
-
--- and no larger than v in size
-pub quotient-size : {v b : ℤ} (n : ℕ) → Size v b → Size (quotient v n) b
-unfolding quotient
-quotient-size n h = size-shift (2 ^ n) h
-
--- ---- the step
 unfoldable pub step : ℕ → 𝔾 → 𝔾 → 𝔾
-step n d z = gi (z .re +ℤ quotient (d .re *ℤ z .re -ℤ d .im *ℤ z .im) n) (z .im +ℤ quotient (d .re *ℤ z .im +ℤ d .im *ℤ z .re) n)
-
--- 2^n·w less (2^n + d)·z: what w is off the exact product by, in 1/2^n of a unit
-abbrev pub off : ℕ → 𝔾 → 𝔾 → 𝔾 → 𝔾
-off n d z w = twoᵍ n *ᵍ w -ᵍ (twoᵍ n +ᵍ d) *ᵍ z
-
--- THE LAW of the step, whatever the digit is: in each part it is within half-units/2 units of the exact product
-pub step-off : (n : ℕ) (d z : 𝔾) → Parts (ιᵍ (pos 2) *ᵍ off n d z (step n d z)) (half-units *ℤ two n)
-unfolding step _+ᵍ_ _*ᵍ_ negᵍ ιᵍ
-step-off n d z = record {
-  re = record {
-    lo = lin ρ (quotient-law u n .near & none) (search reify depth 20) tt;
-    hi = lin ρ (quotient-law u n .below & nonneg-pos (2 ^ n) & none) (search reify depth 20) tt;
-  };
-  im = record {
-    lo = lin ρ (quotient-law v n .near & none) (search reify depth 20) tt;
-    hi = lin ρ (quotient-law v n .below & nonneg-pos (2 ^ n) & none) (search reify depth 20) tt;
-  };
-}
-  where
-    u : ℤ
-    u = d .re *ℤ z .re -ℤ d .im *ℤ z .im
-
-    v : ℤ
-    v = d .re *ℤ z .im +ℤ d .im *ℤ z .re
-
-    ρ : List ℤ
-    ρ = two n ∷ d .re ∷ d .im ∷ z .re ∷ z .im ∷ quotient u n ∷ quotient v n ∷ []
-
--- within one unit, then, and that under any rounding
-pub step-error : (n : ℕ) (d z : 𝔾) → Parts (off n d z (step n d z)) (two n)
-step-error n d z = parts-cancel (pos 2) (record { le = tt }) (parts-weaken (step-off n d z) (lin (two n ∷ []) (nonneg-pos (2 ^ n) & none) (search reify depth 20) tt))
+step n d z = gi
+    (z .re +ℤ quotient (d .re *ℤ z .re -ℤ d .im *ℤ z .im) n)
+    (z .im +ℤ quotient (d .re *ℤ z .im +ℤ d .im *ℤ z .re) n)

@@ -1,10 +1,7 @@
--- A whole sheet, and the same sheet fed in pieces.
---   Sheet    what the program answers to a sheet, and what a piece adds to it
---   Pieces   THE LAW: fed in any pieces, the bytes written are those of the whole sheet's answer
---   Example  the run that 01 quotes, computed
--- For the code: Progress (how far a piece is fed), State (what a state holds, and a run of writes).
+-- A sheet is answered line by line by a machine; the same sheet may be read in pieces.
+--   Machine  any machine: the lines of a sheet and what they are answered; a place in a sheet, and what a piece does there
+--   Sheet    the machine of 01, and what it answers to a whole sheet
+--   Code     what private functions hand on
+pub mod Machine
 pub mod Sheet
-pub mod Pieces
-pub mod Progress
-pub mod State
-pub mod Example
+pub mod Code

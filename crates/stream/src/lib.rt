@@ -1,94 +1,126 @@
-// A sheet fed in pieces of any size: the line that has begun is a state that goes in and comes back by value.
+// A sheet fed in pieces of any size: a place in it goes in and comes back by value.
 ghost use mathlib.Core.Path.{_≡_};
-ghost use mathlib.Core.List.{[], _++_};
-ghost use Prim.Native.Nat.{_+_, _≤_};
+ghost use mathlib.Core.List.{_++_};
+ghost use Prim.Native.Nat.{_≤_};
 ghost use lib.ListN.{length, take, drop};
 ghost use lib.Seq.{slice};
-ghost use Rattle.text.specs.Put.{Front};
-ghost use Rattle.stream.specs.Sheet.{heading, answered, said, left, last, taken, ifRoom};
-ghost use Rattle.stream.specs.State.{line, Answered};
+ghost use Rattle.text.specs.Answer.{answer-room};
+ghost use Rattle.stream.specs.Machine.{newLine, goOn, cut, lineEnd, answersFrom, placeAfter, readWithin, answersAtEnd};
+ghost use Rattle.stream.specs.Sheet.{initial, machine, heading, placeOf, unlessShort};
+ghost use Rattle.stream.specs.Code.{Wrote};
+use text::ANSWER_ROOM;
 
-// The line that has begun, or the first 117 bytes of it, which tell its answer.
-pub struct Held {
-    bytes: [u8; 117],
+// So many bytes of a line tell its answer: no line as long has the form.
+const KEPT: usize = 117;
+
+// What the answer to a line takes from the lines before it: nothing.
+pub struct State {}
+
+// A place in a sheet: the state there, and of the line that has begun what is kept.
+pub struct Place {
+    state: State,
+    bytes: [u8; KEPT],
     len: usize,
 }
 
-// What a piece does: the line that it leaves begun, and how many bytes were read and written.
+// What a piece does: the place that it leads to, and how many bytes were read and written.
 pub struct Fed {
-    pub held: Held,
+    pub place: Place,
     pub read: usize,
     pub written: usize,
 }
 
-// No line has begun.
-pub fn empty() -> Held
-    ensures { λ r. ⌜ line r ≡ [] ⌝ }
+// What a line does: the state in which the next one is answered, and how many bytes were written.
+struct Answered {
+    state: State,
+    written: usize,
+}
+
+// THE MACHINE: a line answered in a state.
+fn next(state: State, line: &[u8], out: &mut [u8]) -> Answered
+    requires { ⌜ answer-room ≤ length (now out) ⌝ }
+    ensures { λ r. ⌜ Wrote (machine .next state (now (line .entry))) (now (out .entry)) (now (out .exit)) r ⌝ }
 {
-    Held {
-        bytes: [0u8; 117],
+    let a = text::answer_line(line, out);
+    Answered {
+        state,
+        written: a.written,
+    }
+}
+
+// The place where a line begins.
+fn new_line(state: State) -> Place
+    ensures { λ r. ⌜ placeOf r ≡ newLine state ⌝ }
+{
+    Place {
+        state,
+        bytes: [0u8; KEPT],
         len: 0,
     }
 }
 
-// How many bytes are held.
-fn count(h: Held) -> usize
-    ensures { λ r. ⌜ r ≡ length (line h) ⌝ }
+// How many bytes of the line are kept.
+fn count(place: Place) -> usize
+    ensures { λ r. ⌜ r ≡ length (placeOf place .begun) ⌝ }
 {
-    let len = h.len;
-    if len < 117 { len } else { 117 }
+    let len = place.len;
+    if len < KEPT { len } else { KEPT }
 }
 
-// The bytes of s from `from` up to `to` behind those that are held.
-fn extended(h: Held, s: &[u8], from: usize, to: usize) -> Held
+// The line goes on with the bytes of s from `from` up to `to`.
+fn extended(place: Place, s: &[u8], from: usize, to: usize) -> Place
     requires { ⌜ (from ≤ to) × (to ≤ length (now s)) ⌝ }
-    ensures { λ r. ⌜ line r ≡ take 117 (line h ++ slice from to (now (s .entry))) ⌝ }
+    ensures { λ r. ⌜ placeOf r ≡ cut (goOn (placeOf place) (slice from to (now (s .entry)))) ⌝ }
 {
-    let mut bytes = h.bytes;
-    let mut len = count(h);
+    let state = place.state;
+    let mut bytes = place.bytes;
+    let mut len = count(place);
     let mut i = from;
-    while i < to {
-        if 117 <= len {
-            return Held { bytes, len };
-        }
+    while i < to && len < KEPT {
         bytes[len] = s[i];
         len = len + 1;
         i = i + 1;
     }
-    Held { bytes, len }
+    Place { state, bytes, len }
 }
 
-// The answer to the held line.
-fn answer_held(h: Held, out: &mut [u8]) -> usize
-    requires { ⌜ 128 ≤ length (now out) ⌝ }
-    ensures { λ r. ⌜ Front (answered (line h)) (now (out .entry)) (now (out .exit)) r ⌝ }
+// The answer to the line that has begun, as if it ended here.
+fn answer_begun(place: Place, out: &mut [u8]) -> Answered
+    requires { ⌜ answer-room ≤ length (now out) ⌝ }
+    ensures { λ r. ⌜ Wrote (lineEnd machine (placeOf place)) (now (out .entry)) (now (out .exit)) r ⌝ }
 {
-    let len = count(h);
-    let bytes = h.bytes;
-    let a = text::answer_line(&bytes[..len], out);
-    a.written
+    let len = count(place);
+    let state = place.state;
+    let bytes = place.bytes;
+    next(state, &bytes[..len], out)
 }
 
-// The answer, from `at` on, to the held line with the bytes of s from `from` up to `to`; a line that lies whole in s is not copied.
-fn answer_from(h: Held, s: &[u8], from: usize, to: usize, out: &mut [u8], at: usize) -> usize
-    requires { ⌜ (from ≤ to) × (to ≤ length (now s)) × (at + 128 ≤ length (now out)) ⌝ }
-    ensures { λ r. ⌜ Answered (line h ++ slice from to (now (s .entry))) (now (out .entry)) at (now (out .exit)) r ⌝ }
+// The answer to the line that goes on with the bytes of s from `from` up to `to` and ends there; one that lies whole in s is not copied.
+fn answer_ended(place: Place, s: &[u8], from: usize, to: usize, out: &mut [u8]) -> Answered
+    requires { ⌜ (from ≤ to) × (to ≤ length (now s)) × (answer-room ≤ length (now out)) ⌝ }
+    ensures { λ r. ⌜ Wrote (lineEnd machine (goOn (placeOf place) (slice from to (now (s .entry))))) (now (out .entry)) (now (out .exit)) r ⌝ }
 {
-    let len = h.len;
+    let len = place.len;
     if len == 0 {
-        let a = text::answer_line(&s[from..to], &mut out[at..]);
-        return at + a.written;
+        let state = place.state;
+        return next(state, &s[from..to], out);
     }
-    let n = answer_held(extended(h, s, from, to), &mut out[at..]);
-    at + n
+    answer_begun(extended(place, s, from, to), out)
+}
+
+// The place before a sheet.
+pub fn empty() -> Place
+    ensures { λ r. ⌜ placeOf r ≡ newLine initial ⌝ }
+{
+    new_line(State {})
 }
 
 // The first line of an answer sheet.
 pub fn open(out: &mut [u8]) -> usize
-    ensures count { λ r. ⌜ r ≡ length (ifRoom (now (out .entry)) heading) ⌝ }
-    ensures bytes { λ r. ⌜ now (out .exit) ≡ ifRoom (now (out .entry)) heading ++ drop r (now (out .entry)) ⌝ }
+    ensures count { λ r. ⌜ r ≡ length (unlessShort (now (out .entry)) heading) ⌝ }
+    ensures bytes { λ r. ⌜ now (out .exit) ≡ unlessShort (now (out .entry)) heading ++ drop r (now (out .entry)) ⌝ }
 {
-    if out.len() < 128 {
+    if out.len() < ANSWER_ROOM {
         return 0;
     }
     let word = b"BKM\t48\n";
@@ -101,52 +133,39 @@ pub fn open(out: &mut [u8]) -> usize
 }
 
 // A piece, as far as there is room for its answers.
-pub fn feed(h: Held, piece: &[u8], out: &mut [u8]) -> Fed
-    ensures read { λ r. ⌜ r .read ≡ taken (line h) (now (piece .entry)) (length (now (out .entry))) ⌝ }
-    ensures held { λ r. ⌜ line (r .held) ≡ take 117 (left (line h) (take (r .read) (now (piece .entry)))) ⌝ }
-    ensures count { λ r. ⌜ r .written ≡ length (said (line h) (take (r .read) (now (piece .entry)))) ⌝ }
-    ensures bytes { λ r. ⌜ now (out .exit) ≡ said (line h) (take (r .read) (now (piece .entry))) ++ drop (r .written) (now (out .entry)) ⌝ }
+pub fn feed(place: Place, piece: &[u8], out: &mut [u8]) -> Fed
+    ensures read { λ r. ⌜ r .read ≡ readWithin machine (length (now (out .entry))) (placeOf place) (now (piece .entry)) ⌝ }
+    ensures place { λ r. ⌜ placeOf (r .place) ≡ cut (placeAfter machine (placeOf place) (take (r .read) (now (piece .entry)))) ⌝ }
+    ensures count { λ r. ⌜ r .written ≡ length (answersFrom machine (placeOf place) (take (r .read) (now (piece .entry)))) ⌝ }
+    ensures bytes { λ r. ⌜ now (out .exit) ≡ answersFrom machine (placeOf place) (take (r .read) (now (piece .entry))) ++ drop (r .written) (now (out .entry)) ⌝ }
 {
-    let mut held = h;
+    let mut here = place;
     let mut i: usize = 0;
     let mut written: usize = 0;
-    while i < piece.len() {
-        let end = scan::find_byte(piece, i, 10);
-        if end == piece.len() {
-            return Fed {
-                held: extended(held, piece, i, end),
-                read: end,
-                written,
-            };
-        }
-        if out.len() - written < 128 {
-            return Fed {
-                held: extended(held, piece, i, end),
-                read: end,
-                written,
-            };
-        }
-        written = answer_from(held, piece, i, end, out, written);
-        held = empty();
+    let mut end = buffer::find_byte(piece, i, 10);
+    while end < piece.len() && ANSWER_ROOM <= out.len() - written {
+        let a = answer_ended(here, piece, i, end, &mut out[written..]);
+        let state = a.state;
+        here = new_line(state);
+        written = written + a.written;
         i = end + 1;
+        end = buffer::find_byte(piece, i, 10);
     }
     Fed {
-        held: extended(held, piece, i, i),
-        read: i,
+        place: extended(here, piece, i, end),
+        read: end,
         written,
     }
 }
 
 // The sheet's end: a last line without its newline counts if it is not empty.
-pub fn finish(h: Held, out: &mut [u8]) -> usize
-    ensures count { λ r. ⌜ r ≡ length (ifRoom (now (out .entry)) (last (line h))) ⌝ }
-    ensures bytes { λ r. ⌜ now (out .exit) ≡ ifRoom (now (out .entry)) (last (line h)) ++ drop r (now (out .entry)) ⌝ }
+pub fn finish(place: Place, out: &mut [u8]) -> usize
+    ensures count { λ r. ⌜ r ≡ length (unlessShort (now (out .entry)) (answersAtEnd machine (placeOf place))) ⌝ }
+    ensures bytes { λ r. ⌜ now (out .exit) ≡ unlessShort (now (out .entry)) (answersAtEnd machine (placeOf place)) ++ drop r (now (out .entry)) ⌝ }
 {
-    if 128 <= out.len() {
-        if h.len == 0 {
-            return 0;
-        }
-        return answer_held(h, out);
+    if out.len() < ANSWER_ROOM || place.len == 0 {
+        return 0;
     }
-    0
+    let a = answer_begun(place, out);
+    a.written
 }

@@ -1,30 +1,19 @@
 -- What a line is answered (01, A sheet line, and Turned away, by operation).
 use mathlib.Core.Bool.{cond}
 use mathlib.Core.List.{List, [], _∷_, _++_}
-use mathlib.Core.Path.{_≡_}
 use Prim.Native.Nat.{ℕ, zero, suc}
 use lib.Dec.{ltb}
 use lib.IntN.{ℤ, pos, negsuc}
 use lib.ListN.{length, drop}
+use Rattle.buffer.specs.Lines.{lineBytes}
 use Rattle.answer.specs.Record.{recordOf, refusal-in, re-in, im-in, binary-exponent-in, quadrant-in, error-bound-in}
 use Rattle.exponential.specs.Answer.{expAnswer}
 use Rattle.logarithm.specs.Answer.{logAnswer}
-use Rattle.text.specs.Decimal.{showNumber}
-use Rattle.text.specs.Line.{EXP, LOG, REF, readLine}
-use Rattle.text.specs.Put.{Front}
 use Rattle.text.specs.declared.Kind.{Kind}
-use Rattle.text.specs.declared.Kind.the-variants as kind
 use Rattle.text.specs.declared.Line.{Line}
+use Rattle.text.specs.Line.{EXP, LOG, REF, readLine}
+use Rattle.text.specs.declared.Kind.the-variants as kind
 use Rattle.text.specs.declared.Line.the-variants as line
-
--- ---- the bytes of an answer line: the serial, a word, numbers, and byte 10
--- each number behind a tab
-unfoldable pub fieldBytes : List ℤ → List ℕ
-fieldBytes [] = []
-fieldBytes (z ∷ zs) = 9 ∷ showNumber z ++ fieldBytes zs
-
-unfoldable pub lineBytes : ℤ → List ℕ → List ℤ → List ℕ
-lineBytes serial word zs = showNumber serial ++ (9 ∷ word) ++ fieldBytes zs ++ 10 ∷ []
 
 -- ---- an answer of either kind, out of its record: "kernel number, kind, N, the two parts, for LOG k and q, then the column"
 abbrev pub wordOf : Kind → List ℕ
@@ -56,23 +45,33 @@ answerReply k serial n r = replyBy (refusal-in r) serial (wordOf k) (fieldsOf k 
 -- a malformed line is answered 0, REF, 5
 unfoldable pub replyOf : Line → Reply
 replyOf line.Malformed = refusedReply (pos 0) (pos 5)
-replyOf (line.Exp serial n exponent start) = answerReply kind.Exp serial n (recordOf (expAnswer n (exponent .x) (exponent .y) (start .x) (start .y)))
+replyOf (line.Exp serial n exponent start) = answerReply kind.Exp serial n
+    (recordOf (expAnswer n (exponent .x) (exponent .y) (start .x) (start .y)))
 replyOf (line.Log serial n point) = answerReply kind.Log serial n (recordOf (logAnswer n (point .x) (point .y)))
 
 unfoldable pub reply : List ℕ → Reply
 reply l = replyOf (readLine l)
 
--- ---- THE CALL: first 6, a buffer under 128 bytes; the reply's bytes in front, and the bytes behind them as they were
+-- ---- A CALL: "first 6, buffer shorter than 128 bytes, nothing written"; "Bytes after the answer keep their values"
+abbrev pub answer-room : ℕ
+answer-room = 128
+
+abbrev pub refusalFor : Reply → List ℕ → ℤ
+refusalFor a out = cond (ltb (length out) answer-room) (pos 6) (a .refusal)
+
+-- "the number of bytes written, the answer's newline counted, 0 for refusal 6"
+abbrev pub countFor : Reply → List ℕ → ℕ
+countFor a out = cond (ltb (length out) answer-room) 0 (length (a .bytes))
+
+abbrev pub outFor : Reply → List ℕ → List ℕ
+outFor a out = cond (ltb (length out) answer-room) out (a .bytes ++ drop (length (a .bytes)) out)
+
+-- the same for the bytes of a line
 abbrev pub refusalOf : List ℕ → List ℕ → ℤ
-refusalOf l out = cond (ltb (length out) 128) (pos 6) (reply l .refusal)
+refusalOf l out = refusalFor (reply l) out
 
 abbrev pub countOf : List ℕ → List ℕ → ℕ
-countOf l out = cond (ltb (length out) 128) 0 (length (reply l .bytes))
+countOf l out = countFor (reply l) out
 
 abbrev pub outOf : List ℕ → List ℕ → List ℕ
-outOf l out = cond (ltb (length out) 128) out (reply l .bytes ++ drop (length (reply l .bytes)) out)
-
--- what a function leaves that answers into a buffer with room
-pub record Replied (a : Reply) (b b′ : List ℕ) (refusal : ℤ) (written : ℕ) : Type 0 where
-  pub refused : refusal ≡ a .refusal
-  pub wrote : Front (a .bytes) b b′ written
+outOf l out = outFor (reply l) out

@@ -1,18 +1,18 @@
 -- A line of a sheet: which bytes are one, and what it asks (01, A sheet line).
-use mathlib.Core.Path.{_≡_}
-use mathlib.Core.Bool.{Bool, true, cond}
+use mathlib.Core.Bool.{Bool, cond}
 use mathlib.Core.List.{List, [], _∷_}
-use Prim.Native.Nat.{ℕ, zero, suc}
+use Prim.Native.Nat.{ℕ}
 use lib.IntN.{ℤ, pos}
 use lib.ListN.{getD}
 use Rattle.word.specs.Compare.{between}
+use Rattle.buffer.specs.declared.reading.Number.{Number}
+use Rattle.buffer.specs.Decimal.{readNumber}
+use Rattle.buffer.specs.Fields.{fields, sameBytes}
+use Rattle.buffer.specs.Numbers.{Numbers, are, none, numbers}
 use Rattle.point.specs.declared.Point.{Point}
-use Rattle.text.specs.Decimal.{readNumber}
-use Rattle.text.specs.Fields.{fields, sameBytes}
-use Rattle.text.specs.declared.reading.Number.{Number}
-use Rattle.text.specs.declared.reading.Number.the-variants as num
 use Rattle.text.specs.declared.Line.{Line}
 use Rattle.text.specs.declared.Line.the-variants.{Exp, Log, Malformed}
+use Rattle.buffer.specs.declared.reading.Number.the-variants as num
 
 -- ---- the words of the format
 abbrev pub EXP : List ℕ
@@ -24,30 +24,12 @@ LOG = 76 ∷ 79 ∷ 71 ∷ []
 abbrev pub REF : List ℕ
 REF = 82 ∷ 69 ∷ 70 ∷ []
 
--- ---- so many numbers
-pub data Numbers : Type 0 where
-  are : List ℤ → Numbers
-  none : Numbers
-
--- a number in front
-abbrev pub inFront : Number → Numbers → Numbers
-inFront num.Not zs = none
-inFront (num.Is z) none = none
-inFront (num.Is z) (are zs) = are (z ∷ zs)
-
--- the fields are n numbers and no more
-unfoldable pub numbers : ℕ → List (List ℕ) → Numbers
-numbers zero [] = are []
-numbers zero (f ∷ fs) = none
-numbers (suc n) [] = none
-numbers (suc n) (f ∷ fs) = inFront (readNumber f) (numbers n fs)
-
--- the line that they make, if they are
+-- ---- the fields from the third on, by the kind
+-- the line that numbers make, if they are there
 abbrev pub formed : Numbers → (List ℤ → Line) → Line
 formed none k = Malformed
 formed (are zs) k = k zs
 
--- ---- the fields from the third on, by the kind
 abbrev pub nth : List ℤ → ℕ → ℤ
 nth zs i = getD zs i (pos 0)
 
@@ -73,9 +55,6 @@ kindLine serial (f ∷ fs) =
 abbrev pub isSerial : ℤ → Bool
 isSerial z = between (pos 1) (pos 9999999) z
 
-abbrev pub IsSerial : ℤ → Type 0
-IsSerial z = isSerial z ≡ true
-
 abbrev pub serialLine : Number → List (List ℕ) → Line
 serialLine num.Not fs = Malformed
 serialLine (num.Is serial) fs = cond (isSerial serial) (kindLine serial fs) Malformed
@@ -84,6 +63,10 @@ unfoldable pub lineOf : List (List ℕ) → Line
 lineOf [] = Malformed
 lineOf (f ∷ fs) = serialLine (readNumber f) fs
 
--- the line that bytes are, which come without their newline
+-- "The line comes to the call without its newline"
 unfoldable pub readLine : List ℕ → Line
 readLine l = lineOf (fields l)
+
+-- the most bytes that a line of the form has
+abbrev pub longest-line : ℕ
+longest-line = 116

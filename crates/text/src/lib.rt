@@ -1,21 +1,19 @@
-// Numbers, fields and lines of a sheet: reading, writing, and the answer to a line.
+// Lines of a sheet: a line read, and a read line answered.
 ghost use mathlib.Core.Path.{_≡_};
-ghost use Prim.Native.Nat.{_+_, _≤_};
-ghost use lib.IntN.{natAbs};
-ghost use lib.ListN.{length};
+ghost use lib.IntN.{pos};
+ghost use Rattle.buffer.specs.Fields.{fieldsAt};
+ghost use Rattle.buffer.specs.Numbers.{numbers};
 ghost use Rattle.answer.specs.Record.{recordOf};
-ghost use Rattle.text.specs.Put.{Put, Front};
-ghost use Rattle.text.specs.Decimal.{showNatural, showNumber};
-ghost use Rattle.text.specs.Fields.{fieldsAt};
-ghost use Rattle.text.specs.Line.{IsSerial, numbers, formed, expOf, logOf, kindLine, readLine};
-ghost use Rattle.text.specs.Answer.{fieldBytes, lineBytes, wordOf, fieldsOf, refusedReply, answerReply, Replied, refusalOf, countOf, outOf};
-ghost use Rattle.text.specs.Call.{ShortSteps};
+ghost use Rattle.text.specs.Line.{formed, expOf, logOf, kindLine, readLine};
+ghost use Rattle.text.specs.Answer.{refusedReply, answerReply, replyOf, refusalFor, countFor, outFor, refusalOf, countOf, outOf};
+ghost use Rattle.text.specs.Code.{Replied};
 use answer::Answer;
 use answer::Figures;
+use buffer::Number;
 use point::Point;
-use reading::Number;
 
-mod reading;
+// The least room for the answer to a line.
+pub const ANSWER_ROOM: usize = 128;
 
 // The operation that a line asks for.
 enum Kind {
@@ -45,84 +43,6 @@ pub struct LineAnswer {
     pub written: usize,
 }
 
-// ---- writing: each from `at` on, and back comes the place behind it
-
-// The digits of v.
-fn put_natural(v: u64, out: &mut [u8], at: usize) -> usize
-    requires { ⌜ at + length (showNatural v) ≤ length (now out) ⌝ }
-    ensures { λ r. ⌜ Put (now (out .entry)) at (showNatural v) (now (out .exit)) r ⌝ }
-{
-    if v < 10 {
-        out[at] = 48 + v as u8;
-        return at + 1;
-    }
-    let end = put_natural(v / 10, out, at);
-    out[end] = 48 + (v % 10) as u8;
-    end + 1
-}
-
-// z without its sign.
-fn size(z: i64) -> u64
-    ensures { λ r. ⌜ r ≡ natAbs z ⌝ }
-{
-    let m = word::magnitude(z);
-    if z < 0 { m + 1 } else { m }
-}
-
-fn put_number(z: i64, out: &mut [u8], at: usize) -> usize
-    requires { ⌜ at + length (showNumber z) ≤ length (now out) ⌝ }
-    ensures { λ r. ⌜ Put (now (out .entry)) at (showNumber z) (now (out .exit)) r ⌝ }
-{
-    let v = size(z);
-    if z < 0 {
-        out[at] = 45;
-        return put_natural(v, out, at + 1);
-    }
-    put_natural(v, out, at)
-}
-
-fn put_word(word: &[u8], out: &mut [u8], at: usize) -> usize
-    requires { ⌜ at + length (now word) ≤ length (now out) ⌝ }
-    ensures { λ r. ⌜ Put (now (out .entry)) at (now (word .entry)) (now (out .exit)) r ⌝ }
-{
-    let mut i: usize = 0;
-    let mut j = at;
-    while i < word.len() {
-        out[j] = word[i];
-        i = i + 1;
-        j = j + 1;
-    }
-    j
-}
-
-// Each number behind a tab.
-fn put_fields(zs: &[i64], out: &mut [u8], at: usize) -> usize
-    requires { ⌜ at + length (fieldBytes (now zs)) ≤ length (now out) ⌝ }
-    ensures { λ r. ⌜ Put (now (out .entry)) at (fieldBytes (now (zs .entry))) (now (out .exit)) r ⌝ }
-{
-    let mut i: usize = 0;
-    let mut j = at;
-    while i < zs.len() {
-        out[j] = 9;
-        j = put_number(zs[i], out, j + 1);
-        i = i + 1;
-    }
-    j
-}
-
-// An answer line, from the front.
-fn put_line(serial: i64, word: &[u8], fields: &[i64], out: &mut [u8]) -> usize
-    requires { ⌜ length (lineBytes serial (now word) (now fields)) ≤ length (now out) ⌝ }
-    ensures { λ r. ⌜ Front (lineBytes serial (now (word .entry)) (now (fields .entry))) (now (out .entry)) (now (out .exit)) r ⌝ }
-{
-    let a = put_number(serial, out, 0);
-    out[a] = 9;
-    let b = put_word(word, out, a + 1);
-    let c = put_fields(fields, out, b);
-    out[c] = 10;
-    c + 1
-}
-
 // ---- reading
 
 // An EXP line's fields from N on.
@@ -130,7 +50,7 @@ fn exp_line(s: &[u8], serial: i64, at: usize) -> Line
     ensures { λ r. ⌜ r ≡ formed (numbers 5 (fieldsAt (now (s .entry)) at)) (expOf serial) ⌝ }
 {
     let mut v = [0i64; 5];
-    if reading::read_numbers(s, at, &mut v) {
+    if buffer::read_numbers(s, at, &mut v) {
         let n = v[0];
         let ex = v[1];
         let ey = v[2];
@@ -151,7 +71,7 @@ fn log_line(s: &[u8], serial: i64, at: usize) -> Line
     ensures { λ r. ⌜ r ≡ formed (numbers 3 (fieldsAt (now (s .entry)) at)) (logOf serial) ⌝ }
 {
     let mut v = [0i64; 3];
-    if reading::read_numbers(s, at, &mut v) {
+    if buffer::read_numbers(s, at, &mut v) {
         let n = v[0];
         let x = v[1];
         let y = v[2];
@@ -171,11 +91,11 @@ fn kind_line(s: &[u8], serial: i64, at: usize) -> Line
     if s.len() < at {
         return Line::Malformed;
     }
-    let f = scan::find_byte(s, at, 9);
-    if reading::is_word(s, at, f, b"EXP") {
+    let f = buffer::find_byte(s, at, 9);
+    if buffer::same_bytes(s, at, f, b"EXP") {
         return exp_line(s, serial, f + 1);
     }
-    if reading::is_word(s, at, f, b"LOG") {
+    if buffer::same_bytes(s, at, f, b"LOG") {
         return log_line(s, serial, f + 1);
     }
     Line::Malformed
@@ -185,8 +105,8 @@ fn kind_line(s: &[u8], serial: i64, at: usize) -> Line
 pub fn read_line(s: &[u8]) -> Line
     ensures { λ r. ⌜ r ≡ readLine (now (s .entry)) ⌝ }
 {
-    let e = scan::find_byte(s, 0, 9);
-    let Number::Is(serial) = reading::read_number(s, 0, e) else {
+    let e = buffer::find_byte(s, 0, 9);
+    let Number::Is(serial) = buffer::read_number(s, 0, e) else {
         return Line::Malformed;
     };
     if serial < 1 {
@@ -198,22 +118,20 @@ pub fn read_line(s: &[u8]) -> Line
     kind_line(s, serial, e + 1)
 }
 
-// ---- answering: each into a buffer with room, from its front
+// ---- answering: each from the front of a buffer, all or nothing
 
 // A line that is turned away.
 fn refused(serial: i64, refusal: i64, out: &mut [u8]) -> LineAnswer
-    requires { ⌜ 128 ≤ length (now out) ⌝ }
     ensures { λ r. ⌜ Replied (refusedReply serial refusal) (now (out .entry)) (now (out .exit)) (r .refusal) (r .written) ⌝ }
 {
     let fields = [refusal];
-    let written = put_line(serial, b"REF", &fields, out);
+    let written = buffer::put_line(serial, b"REF", &fields, out, 0);
     LineAnswer { refusal, written }
 }
 
 // The figures of an answer, as a line of its kind.
 fn put_figures(kind: Kind, serial: i64, n: i64, f: Figures, out: &mut [u8]) -> usize
-    requires { ⌜ (128 ≤ length (now out)) × IsSerial serial × (length (showNumber n) ≤ 2) ⌝ }
-    ensures { λ r. ⌜ Front (lineBytes serial (wordOf kind) (fieldsOf kind n (recordOf (Answer.Answered f)))) (now (out .entry)) (now (out .exit)) r ⌝ }
+    ensures { λ r. ⌜ Replied (answerReply kind serial n (recordOf (Answer.Answered f))) (now (out .entry)) (now (out .exit)) (pos 0) r ⌝ }
 {
     let value = f.value;
     let x = value.x;
@@ -224,18 +142,17 @@ fn put_figures(kind: Kind, serial: i64, n: i64, f: Figures, out: &mut [u8]) -> u
     match kind {
         Kind::Exp => {
             let fields = [n, x, y, error_bound];
-            put_line(serial, b"EXP", &fields, out)
+            buffer::put_line(serial, b"EXP", &fields, out, 0)
         }
         Kind::Log => {
             let fields = [n, x, y, binary_exponent, quadrant, error_bound];
-            put_line(serial, b"LOG", &fields, out)
+            buffer::put_line(serial, b"LOG", &fields, out, 0)
         }
     }
 }
 
 // An answer of either kind.
 fn put_answer(kind: Kind, serial: i64, n: i64, answer: Answer, out: &mut [u8]) -> LineAnswer
-    requires { ⌜ (128 ≤ length (now out)) × IsSerial serial × ShortSteps n answer ⌝ }
     ensures { λ r. ⌜ Replied (answerReply kind serial n (recordOf answer)) (now (out .entry)) (now (out .exit)) (r .refusal) (r .written) ⌝ }
 {
     match answer {
@@ -253,19 +170,19 @@ fn put_answer(kind: Kind, serial: i64, n: i64, answer: Answer, out: &mut [u8]) -
     }
 }
 
-// THE CALL: the answer to a line, which comes without its newline.
-pub fn answer_line(line: &[u8], out: &mut [u8]) -> LineAnswer
-    ensures refusal { λ r. ⌜ r .refusal ≡ refusalOf (now (line .entry)) (now (out .entry)) ⌝ }
-    ensures count { λ r. ⌜ r .written ≡ countOf (now (line .entry)) (now (out .entry)) ⌝ }
-    ensures bytes { λ r. ⌜ now (out .exit) ≡ outOf (now (line .entry)) (now (out .entry)) ⌝ }
+// The answer to a line that is read.
+pub fn reply(line: Line, out: &mut [u8]) -> LineAnswer
+    ensures refusal { λ r. ⌜ r .refusal ≡ refusalFor (replyOf line) (now (out .entry)) ⌝ }
+    ensures count { λ r. ⌜ r .written ≡ countFor (replyOf line) (now (out .entry)) ⌝ }
+    ensures bytes { λ r. ⌜ now (out .exit) ≡ outFor (replyOf line) (now (out .entry)) ⌝ }
 {
-    if out.len() < 128 {
+    if out.len() < ANSWER_ROOM {
         return LineAnswer {
             refusal: 6,
             written: 0,
         };
     }
-    match read_line(line) {
+    match line {
         Line::Malformed => refused(0, 5, out),
         Line::Exp {
             serial,
@@ -281,4 +198,13 @@ pub fn answer_line(line: &[u8], out: &mut [u8]) -> LineAnswer
             put_answer(Kind::Log, serial, n, answer, out)
         }
     }
+}
+
+// THE CALL: the answer to a line, which comes without its newline.
+pub fn answer_line(line: &[u8], out: &mut [u8]) -> LineAnswer
+    ensures refusal { λ r. ⌜ r .refusal ≡ refusalOf (now (line .entry)) (now (out .entry)) ⌝ }
+    ensures count { λ r. ⌜ r .written ≡ countOf (now (line .entry)) (now (out .entry)) ⌝ }
+    ensures bytes { λ r. ⌜ now (out .exit) ≡ outOf (now (line .entry)) (now (out .entry)) ⌝ }
+{
+    reply(read_line(line), out)
 }

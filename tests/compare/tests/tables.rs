@@ -34,7 +34,7 @@ fn step_table() {
             }
         }
     }
-    assert_eq!(entries("step_rows/src/steps48.rt"), wanted);
+    assert_eq!(entries("step_table/src/rows48.rt"), wanted);
 }
 
 /// The entries by columns of cells, and what stands outside.
@@ -48,13 +48,13 @@ fn cells(entry: impl Fn(i128, i128) -> Point) -> Vec<Point> {
 
 #[test]
 fn reciprocals() {
-    assert_eq!(entries("cells/src/reciprocals.rt"), cells(reciprocal));
+    assert_eq!(entries("reciprocal_table/src/reciprocals.rt"), cells(reciprocal));
 }
 
 #[test]
 fn reciprocal_logs() {
     assert_eq!(
-        entries("cells/src/reciprocal_logs48.rt"),
+        entries("reciprocal_table/src/reciprocal_logs48.rt"),
         cells(|x, y| tables(WIDTH_48).reciprocal_log(x, y))
     );
 }

@@ -1,6 +1,6 @@
 -- `answer::numbers` meets its contract. Written out, so that a refusal names the number that stands in the wrong place.
 use mathlib.Core.Path.{refl}
-use Rattle.word.specs.Fits.{back, sfits-mag}
+use Rattle.word.proofs.Fits.{back, sfits-mag}
 use Rattle.answer.proofs.numbers.Statement.{statement}
 use Rattle.answer.proofs.numbers.Tie as tie
 

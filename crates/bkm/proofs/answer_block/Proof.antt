@@ -6,19 +6,20 @@ use native.Mathlib.Omega.{arith}
 use borrow.Author.Needs.{needs}
 use lib.ListN.{length, take, drop, length-append, length-drop}
 use lib.Seq.{take-all, take-add, length-take-le}
-use Rattle.stream.specs.Sheet.{left, taken}
-use Rattle.stream.specs.Pieces.{left-goes, cut-twice}
-use Rattle.stream.specs.Progress.{taken-some, taken-most}
-use Rattle.stream.specs.State.{line}
+use Rattle.stream.specs.declared.State.{State}
+use Rattle.stream.specs.Machine.{Place, cut, placeAfter, readWithin}
+use Rattle.stream.specs.Sheet.{machine, placeOf}
+use Rattle.stream.proofs.Pieces.{told, cut-twice, goes-on}
+use Rattle.stream.proofs.Progress.{read-some, read-most}
 use Rattle.bkm.proofs.answer_block.Statement.{statement}
 use Rattle.bkm.proofs.answer_block.Tie as tie
 
 abbrev Inv-loop : tie.InvT-loop
-Inv-loop block out₀ held₀ at₀ out held at =
-    (at ≤ length block) × (length out ≡ length out₀) × (take 117 (line held) ≡ take 117 (left (line held₀) (take at block)))
+Inv-loop block out₀ here₀ at₀ out here at =
+    (at ≤ length block) × (length out ≡ length out₀) × (cut (placeOf here) ≡ cut (placeAfter machine (placeOf here₀) (take at block)))
 
 abbrev μ-loop : tie.MeasureT-loop
-μ-loop block out₀ held₀ at₀ out held at = length block - at
+μ-loop block out₀ here₀ at₀ out here at = length block - at
 
 -- ---- what a feed tells
 module _ (c : tie.After-feed Inv-loop μ-loop) where
@@ -34,26 +35,29 @@ module _ (c : tie.After-feed Inv-loop μ-loop) where
   all : take (length block - head .loop .at) rest ≡ rest
   all = take-all (length block - head .loop .at) rest (simp length-drop (omega arith))
 
-  read : c .feed .result .read ≡ taken (line (head .loop .held)) rest (length (head .loop .out))
+  abbrev from : Place State
+  from = placeOf (head .loop .here)
+
+  read : c .feed .result .read ≡ readWithin machine (length (head .loop .out)) from rest
   read = rw all at (c .feed .ensures .0)
 
-  held : line (c .feed .result .held) ≡ take 117 (left (line (head .loop .held)) (take (c .feed .result .read) rest))
-  held = rw all at (c .feed .ensures .1 .0)
+  led : placeOf (c .feed .result .place) ≡ cut (placeAfter machine from (take (c .feed .result .read) rest))
+  led = rw all at (c .feed .ensures .1 .0)
 
   some : 0 < c .feed .result .read
   some =
       let s = head .before .before .before in
       let n : 0 < length rest = simp length-drop (omega (arith, c .before .before .before .loop-test .taken)) in
-      rw read (taken-some (line (head .loop .held)) rest (length (head .loop .out)) n (omega (arith, s .pre, head .loop .inv .1)))
+      rw read (read-some machine from rest (length (head .loop .out)) n (omega (arith, s .pre, head .loop .inv .1)))
 
   most : head .loop .at + c .feed .result .read ≤ length block
-  most = omega (arith, read, taken-most rest (line (head .loop .held)) (length (head .loop .out)), length-drop (head .loop .at) block, head .loop .inv .0)
+  most = omega (arith, read, read-most machine rest from (length (head .loop .out)), length-drop (head .loop .at) block, head .loop .inv .0)
 
   room : c .feed .result .written ≤ length (c .feed .last .1 .1 .0)
   room = omega (arith, c .feed .ensures .1 .1 .0, simp length-append at (ap length (c .feed .ensures .1 .1 .1)))
 
 loop-holds : tie.Need-loop-holds Inv-loop μ-loop
-unfolding left
+unfolding placeAfter
 loop-holds c = (omega arith, refl, refl)
 
 sub-feed : tie.Need-sub-feed Inv-loop μ-loop
@@ -87,14 +91,14 @@ loop-again : tie.Need-loop-again Inv-loop μ-loop
 loop-again c =
     let f = c .before .before .before .before .before .before in
     let l = head f in
-    let p = line (l .before .before .before .args .h) in
+    let p = placeOf (l .before .before .before .args .place) in
     let more = take (f .feed .result .read) (rest f) in (
       most f,
       f .feed .kept .1 .1 .0 ∙ l .loop .inv .1,
-      ap (take 117) (held f)
-          ∙ (cut-twice (left (line (l .loop .held)) more)
-          ∙ (left-goes (line (l .loop .held)) p (take (l .loop .at) (block f)) more (l .loop .inv .2)
-          ∙ ap (λ (t : List ℕ). take 117 (left p t)) (sym (take-add (l .loop .at) (f .feed .result .read) (block f))))),
+      ap (λ q. cut q) (led f)
+          ∙ (cut-twice (placeAfter machine (from f) more)
+          ∙ (goes-on machine told p (from f) (take (l .loop .at) (block f)) more (l .loop .inv .2)
+          ∙ ap (λ (t : List ℕ). cut (placeAfter machine p t)) (sym (take-add (l .loop .at) (f .feed .result .read) (block f))))),
     )
 
 same-length : tie.Need-same-length Inv-loop μ-loop

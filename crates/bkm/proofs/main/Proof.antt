@@ -9,10 +9,10 @@ use Rattle.bkm.proofs.main.Statement.{statement}
 use Rattle.bkm.proofs.main.Tie as tie
 
 abbrev Inv-loop : tie.InvT-loop
-Inv-loop block₀ out₀ n held₀ turns₀ block out held turns = (length block ≡ 65536) × (length out ≡ 65536)
+Inv-loop block₀ out₀ n place₀ turns₀ block out place turns = (length block ≡ 65536) × (length out ≡ 65536)
 
 abbrev μ-loop : tie.MeasureT-loop
-μ-loop block₀ out₀ n held₀ turns₀ block out held turns = turns
+μ-loop block₀ out₀ n place₀ turns₀ block out place turns = turns
 
 -- no more is written than there is room for
 opened : (c : tie.After-open Inv-loop μ-loop) → c .open .result ≤ length (c .open .last .0)

@@ -1,7 +1,7 @@
 -- `controller::bkm_exp` meets its contract.
-use Rattle.word.specs.Fits.{back}
-use Rattle.controller.specs.Record.{called}
 use borrow.Author.Needs.{needs}
+use Rattle.word.proofs.Fits.{back}
+use Rattle.controller.proofs.Call.{called}
 use Rattle.controller.proofs.bkm_exp.Statement.{statement}
 use Rattle.controller.proofs.bkm_exp.Tie as tie
 
@@ -19,7 +19,8 @@ returns c =
     let h = c .before .before in
     let e = h .before .before in
     let s = e .before .before in
-    let answer = rw (back (s .fits .n), back (s .fits .ex), back (s .fits .ey), back (s .fits .sx), back (s .fits .sy)) at (e .exp .ensures .0) in
+    let answer = rw (back (s .fits .n), back (s .fits .ex), back (s .fits .ey), back (s .fits .sx), back (s .fits .sy)) at
+    (e .exp .ensures .0) in
     called (s .args .out .now) answer (h .hand-over .ok) (h .hand-over .ensures)
 
 pub bkm-exp-spec : {M : Type 1} → statement M

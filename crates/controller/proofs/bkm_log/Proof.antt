@@ -1,7 +1,7 @@
 -- `controller::bkm_log` meets its contract.
-use Rattle.word.specs.Fits.{back}
-use Rattle.controller.specs.Record.{called}
 use borrow.Author.Needs.{needs}
+use Rattle.word.proofs.Fits.{back}
+use Rattle.controller.proofs.Call.{called}
 use Rattle.controller.proofs.bkm_log.Statement.{statement}
 use Rattle.controller.proofs.bkm_log.Tie as tie
 

@@ -3,8 +3,9 @@ use mathlib.Core.Path.{_≡_, refl}
 use native.Mathlib.Omega.{arith}
 use borrow.Author.Tests.{lt-ltb, le-ltb}
 use lib.ListN.{length}
-use Rattle.word.specs.Fits.{back, sfits-mag}
 use borrow.Author.Needs.{needs}
+use Rattle.word.proofs.Fits.{back, sfits-mag}
+use Rattle.controller.proofs.Call.{six-front}
 use Rattle.controller.proofs.hand_over.Statement.{statement}
 use Rattle.controller.proofs.hand_over.Tie as tie
 
@@ -14,11 +15,11 @@ returns c = rw (lt-ltb (length (c .before .before .args .out .now)) 48 (omega ar
 record-requires : tie.Need-record-requires
 record-requires c κs = search needs
 
-slice-aggregate-put-numbers : tie.Need-slice-aggregate-put-numbers
-slice-aggregate-put-numbers c = search needs
+slice-aggregate-put-words : tie.Need-slice-aggregate-put-words
+slice-aggregate-put-words c = search needs
 
-put-numbers-requires : tie.Need-put-numbers-requires
-put-numbers-requires c κs = search needs
+put-words-requires : tie.Need-put-words-requires
+put-words-requires c κs = search needs
 
 array-copy-out-result : tie.Need-array-copy-out-result
 array-copy-out-result c = search needs
@@ -31,7 +32,9 @@ returns-2 c =
     let p = c .before .before .before in
     let a = p .before .before .before in
     let n : length (a .«record» .result) ≡ 6 = search needs in
-    rw (le-ltb _ _ (a .before .if1 .left), ← a .«record» .ensures) (back (sfits-mag _ (c .result .given)), rw n at (p .put-numbers .ensures))
+    let out = a .before .before .before .args .out .now in
+    rw (le-ltb _ _ (a .before .if1 .left), ← a .«record» .ensures)
+    (back (sfits-mag _ (c .result .given)), six-front out (a .«record» .result) n (a .before .if1 .left) (p .put-words .ensures))
 
 pub hand-over-spec : {M : Type 1} → statement M
 hand-over-spec =
@@ -39,8 +42,8 @@ hand-over-spec =
     (tie.spec
     returns
     record-requires
-    slice-aggregate-put-numbers
-    put-numbers-requires
+    slice-aggregate-put-words
+    put-words-requires
     array-copy-out-result
     same-length
     returns-2)

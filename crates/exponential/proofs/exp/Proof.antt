@@ -5,17 +5,18 @@ use Prim.Native.Nat.{_-_}
 use native.Mathlib.Omega.{arith}
 use lib.IntN.{pos, natAbs}
 use borrow.Author.Tests.{not-true, not-false}
-use Rattle.word.specs.Fits.{back, sfits-mag}
+use borrow.Author.Needs.{needs}
+use Rattle.word.proofs.Fits.{back, sfits-mag}
 use Rattle.point.specs.Point.{gauss}
-use Rattle.point.specs.Limits.{inSteps, steps-say, steps-cast, parts-say}
+use Rattle.point.specs.Limits.{inSteps}
+use Rattle.point.proofs.InLimits.{steps-say, steps-cast, parts-say}
 use Rattle.answer.specs.declared.Answer.the-variants.{Answered}
-use Rattle.entries.specs.Table.{stepTable}
-use Rattle.entries.specs.Promise48.{step-promise}
+use Rattle.table_numbers.specs.Table.{stepTable}
+use Rattle.table_numbers.proofs.Promise48.{step-promise}
 use Rattle.iteration.specs.declared.State.{State}
 use Rattle.exponential.specs.Answer.{inRectangle}
-use Rattle.exponential.specs.Fits.{run-fits}
-use Rattle.exponential.specs.Close.{Accepted, rectangle-says, refused-steps, refused-exponent, refused-part, answered, settled}
-use borrow.Author.Needs.{needs}
+use Rattle.exponential.proofs.Fits.{run-fits}
+use Rattle.exponential.proofs.Close.{Accepted, rectangle-says, refused-steps, refused-exponent, refused-part, answered, settled}
 use Rattle.exponential.proofs.exp.Statement.{statement}
 use Rattle.exponential.proofs.exp.Tie as tie
 
@@ -82,7 +83,8 @@ run-requires c κs =
     let a = s .args in
     let p = accepted c in
     simp (back, s .fits .n)
-    (run-fits 48 (omega arith) (omega arith) stepTable step-promise (natAbs (a .n)) (gauss (a .exponent)) (gauss (a .start)) (steps-say 48 1 (a .n) (p .steps) .at-most)
+    (run-fits 48 (omega arith) (omega arith) stepTable step-promise (natAbs (a .n)) (gauss (a .exponent)) (gauss (a .start))
+    (steps-say 48 1 (a .n) (p .steps) .at-most)
     (rectangle-says 48 (gauss (a .exponent)) (omega arith) (p .rectangle)) (parts-say 48 (gauss (a .start)) (p .start)))
 
 error-bound-requires : tie.Need-error-bound-requires

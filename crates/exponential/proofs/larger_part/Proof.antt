@@ -3,16 +3,17 @@ use mathlib.Core.Path.{_≡_, sym, _∙_, ap}
 use mathlib.Core.Bool.{true, false}
 use lib.Signed.{ltZ}
 use borrow.Author.Needs.{needs}
-use Rattle.algebra.specs.Parts.{abs}
-use Rattle.algebra.specs.Larger.{larger-re, larger-im}
-use Rattle.word.specs.Fits.{back, sfits-mag}
-use Rattle.word.specs.Compare.{ltZ-true, ltZ-false}
+use Rattle.algebra.specs.Size.{abs}
+use Rattle.algebra.proofs.Larger.{larger-re, larger-im}
+use Rattle.word.proofs.Fits.{back, sfits-mag}
+use Rattle.word.proofs.Compare.{ltZ-true, ltZ-false}
 use Rattle.point.specs.Point.{gauss}
 use Rattle.exponential.proofs.larger_part.Statement.{statement}
 use Rattle.exponential.proofs.larger_part.Tie as tie
 
 -- the two sizes
-sizes : (c : tie.After-size2) → let s = c .before .before .before .before in (c .before .size .result ≡ abs (s .args .p .x)) × (c .size2 .result ≡ abs (s .args .p .y))
+sizes : (c : tie.After-size2) → let s = c .before .before .before .before in
+    (c .before .size .result ≡ abs (s .args .p .x)) × (c .size2 .result ≡ abs (s .args .p .y))
 sizes c =
     let b = c .before in
     let s = b .before .before .before in

@@ -1,5 +1,5 @@
 -- `iteration::cut` meets its contract.
-use Rattle.word.specs.Fits.{back}
+use Rattle.word.proofs.Fits.{back}
 use Rattle.iteration.proofs.cut.Statement.{statement}
 use Rattle.iteration.proofs.cut.Tie as tie
 

@@ -3,9 +3,9 @@ use mathlib.Core.Path.{_≡_, sym, _∙_, ap}
 use mathlib.Core.Bool.{Bool, true, false}
 use lib.IntN.{ℤ, pos, negℤ, _-ℤ_}
 use lib.Signed.{leZ}
-use Rattle.word.specs.Fits.{back, zero-sub}
-use Rattle.iteration.specs.Fits.{minus-fits}
-use Rattle.iteration.specs.Select.{back-low, back-high, back-mid}
+use Rattle.word.proofs.Fits.{back, zero-sub}
+use Rattle.iteration.proofs.Fits.{minus-fits}
+use Rattle.iteration.proofs.Digits.{back-low, back-high, back-mid}
 use Rattle.iteration.proofs.cut_back.Statement.{statement}
 use Rattle.iteration.proofs.cut_back.Tie as tie
 

@@ -1,10 +1,10 @@
 -- `iteration::exp_digit` meets its contract.
 use mathlib.Core.Path.{_∙_}
-use Rattle.word.specs.Fits.{back, sfits-mag}
-use Rattle.iteration.specs.Select.{cut, exp-select}
-use Rattle.iteration.specs.Fits.{low-x-word, high-x-word, low-y-word, high-y-word}
 use native.Mathlib.Omega.{arith}
 use borrow.Author.Needs.{needs}
+use Rattle.word.proofs.Fits.{back, sfits-mag}
+use Rattle.iteration.specs.Select.{cut, exp-select}
+use Rattle.iteration.proofs.Fits.{low-x-word, high-x-word, low-y-word, high-y-word}
 use Rattle.iteration.proofs.exp_digit.Statement.{statement}
 use Rattle.iteration.proofs.exp_digit.Tie as tie
 
@@ -46,8 +46,12 @@ returns c =
     let n = s .args .n in
     let x = back (sfits-mag (s .args .sum .x) (b .before .before .struct-told .given .0 .1)) in
     let y = back (sfits-mag (s .args .sum .y) (b .before .struct-told2 .given .1 .0 .1)) in
-    let dx = back (sfits-mag (b .cut .result) (b .cut .ok)) ∙ (b .cut .ensures ∙ (λ i. cut (low-x-word 48 n (omega arith) (omega (arith, s .pre)) i) (high-x-word 48 n (omega arith) (omega (arith, s .pre)) i) (x i))) in
-    let dy = back (sfits-mag (c .cut2 .result) (c .cut2 .ok)) ∙ (c .cut2 .ensures ∙ (λ i. cut (low-y-word 48 n (omega arith) (omega (arith, s .pre)) i) (high-y-word 48 n (omega arith) (omega (arith, s .pre)) i) (y i))) in
+    let dx = back (sfits-mag (b .cut .result) (b .cut .ok))
+    ∙ (b .cut .ensures ∙ (λ i. cut (low-x-word 48 n (omega arith) (omega (arith, s .pre)) i)
+    (high-x-word 48 n (omega arith) (omega (arith, s .pre)) i) (x i))) in
+    let dy = back (sfits-mag (c .cut2 .result) (c .cut2 .ok))
+    ∙ (c .cut2 .ensures ∙ (λ i. cut (low-y-word 48 n (omega arith) (omega (arith, s .pre)) i)
+    (high-y-word 48 n (omega arith) (omega (arith, s .pre)) i) (y i))) in
     λ i. record { dx = dx i; dy = dy i }
 
 pub exp-digit-spec : {M : Type 1} → statement M

@@ -1,8 +1,8 @@
 -- `iteration::less` meets its contract.
 use borrow.Author.Needs.{needs}
 use Rattle.algebra.specs.Gauss.{_+ᵍ_, negᵍ}
-use Rattle.word.specs.Fits.{back}
-use Rattle.iteration.specs.Fits.{less-fits}
+use Rattle.word.proofs.Fits.{back}
+use Rattle.iteration.proofs.Fits.{less-fits}
 use Rattle.iteration.proofs.less.Statement.{statement}
 use Rattle.iteration.proofs.less.Tie as tie
 

@@ -7,11 +7,11 @@ use mir.Syntax.{w64}
 use mir.Val.{toZ}
 use borrow.Author.Needs.{needs}
 use Rattle.algebra.specs.Gauss.{_+ᵍ_, negᵍ, ιᵍ}
-use Rattle.algebra.specs.Power.{two≥1}
-use Rattle.word.specs.Fits.{back, sfits-mag}
+use Rattle.algebra.proofs.Power.{two≥1}
+use Rattle.word.proofs.Fits.{back, sfits-mag}
 use Rattle.point.specs.declared.Point.{Point}
 use Rattle.iteration.specs.Select.{half, cut-back, log-select}
-use Rattle.iteration.specs.Fits.{half-word}
+use Rattle.iteration.proofs.Fits.{half-word}
 use Rattle.iteration.proofs.log_digit.Statement.{statement}
 use Rattle.iteration.proofs.log_digit.Tie as tie
 

@@ -1,8 +1,8 @@
 -- `iteration::residual` meets its contract.
-use Rattle.algebra.specs.Gauss.{_+ᵍ_, negᵍ, ιᵍ}
 use native.Mathlib.Omega.{arith}
-use Rattle.word.specs.Fits.{back}
-use Rattle.iteration.specs.Fits.{residual-fits}
+use Rattle.algebra.specs.Gauss.{_+ᵍ_, negᵍ, ιᵍ}
+use Rattle.word.proofs.Fits.{back}
+use Rattle.iteration.proofs.Fits.{residual-fits}
 use Rattle.iteration.proofs.residual.Statement.{statement}
 use Rattle.iteration.proofs.residual.Tie as tie
 

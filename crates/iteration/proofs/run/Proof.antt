@@ -1,19 +1,20 @@
--- `iteration::run` meets its contract. The invariant before step k: every state from here on is small, and the steps from k on lead where all
--- lead.
+-- `iteration::run` meets its contract. The invariant before step k: every state from here on is small, and the steps from k on lead where
+-- all lead.
 use mathlib.Core.Path.{_≡_, refl, sym, _∙_, ap, subst, subst₂}
 use Prim.Native.Nat.{ℕ, suc, _+_, _-_, _≤_}
 use native.Mathlib.Omega.{arith}
-use Rattle.word.specs.Fits.{back, sfits-mag}
+use Rattle.word.proofs.Fits.{back, sfits-mag}
 use Rattle.point.specs.Point.{gaussᵈ, digit}
-use Rattle.entries.specs.Listed.{byDigit}
-use Rattle.entries.specs.Promise.{look}
-use Rattle.entries.specs.Table.{stepTable}
-use Rattle.entries.specs.Rows.{number, none, stepRow, row-entry}
+use Rattle.table_numbers.specs.Listed.{byDigit}
+use Rattle.table_numbers.specs.Promise.{look}
+use Rattle.table_numbers.specs.Table.{stepTable}
+use Rattle.table_numbers.specs.Rows.{number, none, stepRow}
+use Rattle.table_numbers.proofs.RowLaws.{row-entry}
 use Rattle.iteration.specs.declared.State.{State}
 use Rattle.iteration.specs.declared.Mode.{Mode}
-use Rattle.iteration.specs.Run.{select, run}
-use Rattle.iteration.specs.Fits.{Fits, StepPre, stepOf}
-use Rattle.iteration.specs.Loop.{here, onward, run-more, step-is, step-ok}
+use Rattle.iteration.specs.Run.{select, run, Fits}
+use Rattle.iteration.specs.Code.{StepPre, stepOf}
+use Rattle.iteration.proofs.Loop.{here, onward, run-more, step-is, step-ok}
 use Rattle.iteration.proofs.run.Statement.{statement}
 use Rattle.iteration.proofs.run.Tie as tie
 
@@ -34,10 +35,12 @@ counted h = omega arith
 -- the digit of the step, and the entry of its row
 chosen : (c : tie.After-select Inv-loop μ-loop) → let l = c .before .before in
     c .select .result ≡ digit (select 48 (l .before .args .mode) (suc (l .loop .k - 1)) (l .loop .s))
-chosen c = let l = c .before .before in c .select .ensures ∙ ap (λ k. digit (select 48 (l .before .args .mode) k (l .loop .s))) (sym (counted (l .loop .inv .0)))
+chosen c = let l = c .before .before in c .select .ensures ∙ ap (λ k. digit (select 48 (l .before .args .mode) k (l .loop .s)))
+    (sym (counted (l .loop .inv .0)))
 
 found : (c : tie.After-row Inv-loop μ-loop) → let s = c .before .before in
-    number (byDigit (c .row .result) none (s .select .result .dy)) ≡ look stepTable (suc (s .before .before .loop .k - 1)) (gaussᵈ (s .select .result))
+    number (byDigit (c .row .result) none (s .select .result .dy))
+    ≡ look stepTable (suc (s .before .before .loop .k - 1)) (gaussᵈ (s .select .result))
 found c =
     let t = c .before in
     let s = t .before in
@@ -53,8 +56,11 @@ add-k c = omega (arith, c .pre .least, c .pre .most)
 loop-holds : tie.Need-loop-holds Inv-loop μ-loop
 loop-holds c =
     let a = c .args in
-    let same : a .from ≡ a .from + 1 - 1 = omega arith in
-    (omega arith, subst (Left (a .mode) (a .n) (run 48 stepTable (a .mode) (a .from) (a .n - a .from) (a .start)) (a .start)) same (c .pre, refl))
+    let same : a .from ≡ a .from + 1 - 1 = omega arith in (
+      omega arith,
+      subst (Left (a .mode) (a .n) (run 48 stepTable (a .mode) (a .from) (a .n - a .from) (a .start)) (a .start)) same
+          (c .pre, refl),
+    )
 
 select-requires : tie.Need-select-requires Inv-loop μ-loop
 select-requires c κs = let l = c .before in (omega (arith, l .loop .inv .1 .0 .most), here (l .loop .inv .1 .0))
@@ -68,7 +74,8 @@ step-requires c κs =
     let l = s .before .before in
     let k = l .loop .k in
     subst (StepPre (l .loop .s) (s .select .result) (c .row .result)) (counted (l .loop .inv .0))
-    (step-ok 48 stepTable (l .before .args .mode) (k - 1) (l .loop .s) (s .select .result) (c .row .result) (chosen s) (found c) (omega arith) (l .loop .inv .1 .0) (omega arith))
+    (step-ok 48 stepTable (l .before .args .mode) (k - 1) (l .loop .s) (s .select .result) (c .row .result) (chosen s) (found c)
+    (omega arith) (l .loop .inv .1 .0) (omega arith))
 
 add-k-2 : tie.Need-add-k-2 Inv-loop μ-loop
 add-k-2 c = let l = c .before .before .before .before .before in omega (arith, l .loop .inv .1 .0 .most)

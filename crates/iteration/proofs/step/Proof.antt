@@ -2,16 +2,17 @@
 use mathlib.Core.Path.{_≡_, sym, _∙_, ap, subst}
 use borrow.Author.Needs.{needs}
 use Rattle.algebra.specs.Gauss.{_-ᵍ_}
-use Rattle.word.specs.Fits.{back, sfits-mag}
+use Rattle.word.proofs.Fits.{back, sfits-mag}
 use Rattle.point.specs.Point.{gauss, point}
-use Rattle.entries.specs.Listed.{byDigit}
-use Rattle.entries.specs.Rows.{number, none}
-use Rattle.iteration.specs.Fits.{LessPre}
+use Rattle.table_numbers.specs.Listed.{byDigit}
+use Rattle.table_numbers.specs.Rows.{number, none}
+use Rattle.iteration.specs.Code.{LessPre}
 use Rattle.iteration.proofs.step.Statement.{statement}
 use Rattle.iteration.proofs.step.Tie as tie
 
 -- the entry that was picked
-picked : (c : tie.After-pick) → let a = c .before .before .before .before .before .args in c .pick .result ≡ byDigit (a .row) none (a .d .dy)
+picked : (c : tie.After-pick) → let a = c .before .before .before .before .before .args in
+    c .pick .result ≡ byDigit (a .row) none (a .d .dy)
 picked c =
     let t = c .before .before in
     let a = t .before .before .before .args in

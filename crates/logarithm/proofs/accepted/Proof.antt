@@ -7,20 +7,19 @@ use lib.IntN.{pos, natAbs, _-ℤ_}
 use mir.Syntax.{w64}
 use mir.Val.{SFits, toZ, ofZ}
 use Rattle.algebra.specs.Order.{_⩽_}
-use Rattle.word.specs.Fits.{back, sfits-mag, word-pos}
+use Rattle.word.proofs.Fits.{back, sfits-mag, word-pos}
 use Rattle.point.specs.declared.Point.{Point}
 use Rattle.point.specs.Point.{gauss, point}
-use Rattle.entries.specs.Table.{stepTable, reciprocalTable}
-use Rattle.entries.specs.Promise48.{step-promise, reciprocal-promise}
+use Rattle.table_numbers.specs.Table.{stepTable, reciprocalTable}
+use Rattle.table_numbers.proofs.Promise48.{step-promise, reciprocal-promise}
 use Rattle.iteration.specs.declared.State.{State}
 use Rattle.iteration.specs.declared.Mode.the-variants.{Log}
-use Rattle.iteration.specs.Run.{run}
-use Rattle.iteration.specs.Fits.{Fits}
+use Rattle.iteration.specs.Run.{run, Fits}
 use Rattle.logarithm.specs.declared.reduction.Turn.{Turn}
-use Rattle.logarithm.specs.Quadrant.{turned}
-use Rattle.logarithm.specs.Scale.{bits, bit-length, binary-exponent}
+use Rattle.logarithm.specs.Reduction.{turned, bits, bit-length, binary-exponent}
 use Rattle.logarithm.specs.Answer.{begun, ended}
-use Rattle.logarithm.specs.Fits.{ScalePre, scale-length, exponent-fits, BoundPre, boundAt, turn-ok, turned-pos, scale-ok, bound-ok, bound-made, run-ok}
+use Rattle.logarithm.specs.Code.{ScalePre, BoundPre, boundAt}
+use Rattle.logarithm.proofs.Fits.{scale-length, exponent-fits, turn-ok, turned-pos, scale-ok, bound-ok, bound-made, run-ok}
 use Rattle.logarithm.proofs.accepted.Statement.{statement}
 use Rattle.logarithm.proofs.accepted.Tie as tie
 
@@ -31,8 +30,10 @@ start c = c .before .before .before .before
 turned-is : (c : tie.After-struct-told2) → c .before .before .before .turned .result .point ≡ point (turned (gauss (start c .args .p)))
 turned-is c = ap (λ (t : Turn). t .point) (c .before .before .before .turned .ensures)
 
-x-is : (c : tie.After-struct-told2) → toZ w64 (ofZ w64 (c .before .before .before .turned .result .point .x)) ≡ turned (gauss (start c .args .p)) .re
-x-is c = back (sfits-mag (c .before .before .before .turned .result .point .x) (c .struct-told2 .given .0 .1)) ∙ ap (λ (w : Point). w .x) (turned-is c)
+x-is : (c : tie.After-struct-told2) →
+    toZ w64 (ofZ w64 (c .before .before .before .turned .result .point .x)) ≡ turned (gauss (start c .args .p)) .re
+x-is c = back (sfits-mag (c .before .before .before .turned .result .point .x) (c .struct-told2 .given .0 .1))
+    ∙ ap (λ (w : Point). w .x) (turned-is c)
 
 length-is : (c : tie.After-bit-length) → c .bit-length .result ≡ bits (natAbs (turned (gauss (start (c .before) .args .p)) .re))
 length-is c = c .bit-length .ensures ∙ ap (λ x. bits (natAbs x)) (x-is (c .before))
@@ -43,7 +44,8 @@ scalable c = subst₂ (ScalePre 48) (sym (turned-is (c .before))) (sym (length-i
 begun-is : (c : tie.After-begun) → c .begun .result ≡ begun 48 reciprocalTable (turned (gauss (start (c .before .before) .args .p)))
 begun-is c = c .begun .ensures ∙ ap (λ w. begun 48 reciprocalTable (gauss w)) (turned-is (c .before .before))
 
-ran : (c : tie.After-run) → let s = start (c .before .before .before) .args in c .run .result ≡ ended 48 stepTable reciprocalTable (s .n) (turned (gauss (s .p)))
+ran : (c : tie.After-run) → let s = start (c .before .before .before) .args in
+    c .run .result ≡ ended 48 stepTable reciprocalTable (s .n) (turned (gauss (s .p)))
 ran c = c .run .ensures ∙ ap (run 48 stepTable Log 2 (start (c .before .before .before) .args .n - 2)) (begun-is (c .before))
 
 abbrev lengthened : tie.After-value → tie.After-bit-length
@@ -67,9 +69,10 @@ returns c =
     let n = s .args .n in
     let value = ap (λ (e : State). e .sum) (ran r) in
     let k = back (exponent-fit u) ∙ (ap (λ b. b -ℤ pos 48) (word-is u ∙ ap pos (length-is l))) in
-    let q = back (sfits-mag (t .before .before .before .turned .result .quadrant) (t .before .struct-told .given .1 .0 .1)) ∙ ap (λ (e : Turn). e .quadrant)
-    (t .before .before .before .turned .ensures) in
-    let b = back (sfits-mag (c .error-bound .result) (c .error-bound .ok)) ∙ (c .error-bound .ensures ∙ (ap (boundAt n) (x-is t) ∙ bound-made (lit≤ tt) (s .pre))) in
+    let q = back (sfits-mag (t .before .before .before .turned .result .quadrant) (t .before .struct-told .given .1 .0 .1))
+    ∙ ap (λ (e : Turn). e .quadrant) (t .before .before .before .turned .ensures) in
+    let b = back (sfits-mag (c .error-bound .result) (c .error-bound .ok))
+    ∙ (c .error-bound .ensures ∙ (ap (boundAt n) (x-is t) ∙ bound-made (lit≤ tt) (s .pre))) in
     λ i. record { value = value i; «binary_exponent» = k i; quadrant = q i; «error_bound» = b i }
 
 -- ---- the needs
@@ -85,7 +88,8 @@ begun-requires c κs = scalable c
 run-requires : tie.Need-run-requires
 run-requires c κs =
     let s = start (c .before .before) in
-    subst (Fits 48 stepTable Log 2 (s .args .n)) (sym (begun-is c)) (run-ok (lit≤ tt) (s .pre) (lit≤ tt) stepTable reciprocalTable step-promise reciprocal-promise)
+    subst (Fits 48 stepTable Log 2 (s .args .n)) (sym (begun-is c))
+    (run-ok (lit≤ tt) (s .pre) (lit≤ tt) stepTable reciprocalTable step-promise reciprocal-promise)
 
 cast-binary-exponent : tie.Need-cast-binary-exponent
 cast-binary-exponent c = record { sfits = omega (arith, scale-length (scalable (lengthened c))) }
@@ -94,8 +98,9 @@ sub-binary-exponent : tie.Need-sub-binary-exponent
 sub-binary-exponent c = exponent-fit c
 
 error-bound-requires : tie.Need-error-bound-requires
-error-bound-requires c κs = let t = lengthened c .before in subst (BoundPre 48 (start t .args .n)) (sym (x-is t)) (bound-ok (lit≤ tt) (start t .pre))
+error-bound-requires c κs = let t = lengthened c .before in subst (BoundPre 48 (start t .args .n)) (sym (x-is t))
+    (bound-ok (lit≤ tt) (start t .pre))
 
 pub accepted-spec : {M : Type 1} → statement M
-accepted-spec = tie.close
-    (tie.spec turned-requires bit-length-requires begun-requires run-requires cast-binary-exponent sub-binary-exponent error-bound-requires returns)
+accepted-spec = tie.close (tie.spec turned-requires bit-length-requires begun-requires run-requires
+    cast-binary-exponent sub-binary-exponent error-bound-requires returns)

@@ -7,9 +7,10 @@ use lib.Signed.{shrZ}
 use mir.Syntax.{w64}
 use mir.Val.{SFits}
 use borrow.Author.Needs.{needs}
-use Rattle.algebra.specs.Parts.{size-neg}
-use Rattle.word.specs.Fits.{back, zero-sub, sfits-size}
-use Rattle.logarithm.specs.Fits.{BoundPre, bound-fits}
+use Rattle.algebra.proofs.Parts.{size-neg}
+use Rattle.word.proofs.Fits.{back, zero-sub, sfits-size}
+use Rattle.logarithm.specs.Code.{BoundPre}
+use Rattle.logarithm.proofs.Fits.{bound-fits}
 use Rattle.logarithm.proofs.error_bound.Statement.{statement}
 use Rattle.logarithm.proofs.error_bound.Tie as tie
 
@@ -24,7 +25,8 @@ shr-down c = search needs
 
 -- 0 less the floor
 whole : {n : ℕ} {m : ℤ} → BoundPre 48 n m → SFits w64 (pos 0 -ℤ shrZ (negsuc 2 *ℤ m) (2 ^ n))
-whole {n} {m} p = subst (SFits w64) (sym (zero-sub (shrZ (negsuc 2 *ℤ m) (2 ^ n)))) (sfits-size (size-neg (bound-fits (lit≤ tt) p .size)) tt)
+whole {n} {m} p = subst (SFits w64) (sym (zero-sub (shrZ (negsuc 2 *ℤ m) (2 ^ n))))
+    (sfits-size (size-neg (bound-fits (lit≤ tt) p .size)) tt)
 
 sub-result : tie.Need-sub-result
 sub-result c = let f = bound-fits (lit≤ tt) (c .pre) in simp (back, f .given, f .product, f .down) (whole (c .pre))

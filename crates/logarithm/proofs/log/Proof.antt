@@ -5,15 +5,16 @@ use native.Mathlib.Omega.{arith}
 use lib.IntN.{pos, natAbs}
 use borrow.Author.Needs.{needs}
 use borrow.Author.Tests.{not-true, not-false}
-use Rattle.word.specs.Fits.{back}
 use Rattle.word.specs.Compare.{between}
+use Rattle.word.proofs.Fits.{back}
 use Rattle.point.specs.Point.{gauss}
-use Rattle.point.specs.Limits.{inSteps, inParts, steps-say, steps-cast}
+use Rattle.point.specs.Limits.{inSteps, inParts}
+use Rattle.point.proofs.InLimits.{steps-say, steps-cast}
 use Rattle.answer.specs.declared.Answer.the-variants.{Answered}
-use Rattle.entries.specs.Table.{stepTable, reciprocalTable}
+use Rattle.table_numbers.specs.Table.{stepTable, reciprocalTable}
 use Rattle.logarithm.specs.Answer.{isZero}
-use Rattle.logarithm.specs.Close.{Accepted, refused-steps, refused-part, refused-zero, answered, settled}
-use Rattle.logarithm.specs.Fits.{figuresOf}
+use Rattle.logarithm.specs.Code.{Accepted, figuresOf}
+use Rattle.logarithm.proofs.Close.{refused-steps, refused-part, refused-zero, answered, settled}
 use Rattle.logarithm.proofs.log.Statement.{statement}
 use Rattle.logarithm.proofs.log.Tie as tie
 
@@ -66,7 +67,8 @@ returns-3 c =
     let b = c .before in
     let e = b .before in
     let a = e .before .before .before .before .args in
-    settled (a .n) (a .p .x) (a .p .y) (refused-zero 48 stepTable reciprocalTable (a .n) (gauss (a .p)) (counted (e .before .before)) (inside e)
+    settled (a .n) (a .p .x) (a .p .y) (refused-zero 48 stepTable reciprocalTable (a .n) (gauss (a .p)) (counted (e .before .before))
+    (inside e)
     (sym (b .is-in-box .ensures) ∙ c .if3 .taken))
 
 cast-accepted : tie.Need-cast-accepted
@@ -88,4 +90,5 @@ returns-4 c =
     ∙ sym (ap Answered (c .accepted .ensures ∙ ap (λ n. figuresOf (natAbs n) (a .p)) (back (s .fits .n)))))
 
 pub log-spec : {M : Type 1} → statement M
-log-spec = tie.close (tie.spec is-between-requires returns is-in-parts-requires returns-2 is-in-box-requires returns-3 cast-accepted accepted-requires returns-4)
+log-spec = tie.close (tie.spec is-between-requires returns is-in-parts-requires returns-2 is-in-box-requires returns-3
+    cast-accepted accepted-requires returns-4)

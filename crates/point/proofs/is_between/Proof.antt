@@ -2,8 +2,8 @@
 use mathlib.Core.Path.{_≡_}
 use mathlib.Core.Bool.{true, false}
 use lib.Signed.{leZ}
-use Rattle.word.specs.Fits.{back}
 use Rattle.word.specs.Compare.{between}
+use Rattle.word.proofs.Fits.{back}
 use Rattle.point.proofs.is_between.Statement.{statement}
 use Rattle.point.proofs.is_between.Tie as tie
 

@@ -6,8 +6,8 @@ use lib.IntN.{ℤ}
 use lib.Signed.{shrZ}
 use mir.Syntax.{w64}
 use mir.Val.{SFits, toZ, ofZ}
-use Rattle.word.specs.Fits.{back}
-use Rattle.word.specs.Shift.{sfits-shift}
+use Rattle.word.proofs.Fits.{back}
+use Rattle.word.proofs.Shift.{sfits-shift}
 use Rattle.point.specs.Step.{quotient}
 use Rattle.point.proofs.rounded.Statement.{statement}
 use Rattle.point.proofs.rounded.Tie as tie

@@ -9,15 +9,15 @@ use Rattle.stream.proofs.count.Tie as tie
 
 returns : tie.Need-returns
 returns c =
-    let h = c .before .args .h in
-    let n : length (h .bytes) ≡ 117 = search needs in
-    sym (length-take-le (h .len) (h .bytes) (omega arith))
+    let p = c .before .args .place in
+    let n : length (p .bytes) ≡ 117 = search needs in
+    sym (length-take-le (p .len) (p .bytes) (omega arith))
 
 returns-2 : tie.Need-returns-2
 returns-2 c =
-    let h = c .before .args .h in
-    let n : length (h .bytes) ≡ 117 = search needs in
-    sym (ap length (take-all (h .len) (h .bytes) (omega arith)) ∙ n)
+    let p = c .before .args .place in
+    let n : length (p .bytes) ≡ 117 = search needs in
+    sym (ap length (take-all (p .len) (p .bytes) (omega arith)) ∙ n)
 
 pub count-spec : {M : Type 1} → statement M
 count-spec = tie.close (tie.spec returns returns-2)

@@ -1,112 +1,150 @@
 -- `stream::feed` meets its contract: a line a turn, and the last one is left begun.
 use mathlib.Core.Path.{_≡_, ap, _∙_}
-use mathlib.Core.List.{List, _++_, append-nil}
-use Prim.Native.Nat.{ℕ, _≤_, _<_, _-_}
+use mathlib.Core.Logic.{⊎-elim}
+use mathlib.Core.List.{List}
+use Prim.Native.Nat.{ℕ, _≤_, _+_, _-_}
 use native.Mathlib.Omega.{arith}
 use borrow.Author.Needs.{needs}
-use lib.ListN.{length, take}
-use lib.Seq.{slice-empty}
-use Rattle.text.specs.Put.{kept}
-use Rattle.scan.specs.Find.{Ended, ended}
-use Rattle.stream.specs.Progress.{Reached, begin, scanned, line-answered, at-end, no-room, stopped}
-use Rattle.stream.specs.State.{line}
+use borrow.Author.Tests.{leb-true, leb-false}
+use lib.ListN.{length}
+use borrow.Rule.Slice.PartMut.{putMid}
+use Rattle.buffer.specs.Find.{findByte}
+use Rattle.buffer.proofs.Find.{Ended, ended}
+use Rattle.buffer.proofs.Put.{kept}
+use Rattle.text.specs.Answer.{answer-room}
+use Rattle.stream.specs.declared.State.{State}
+use Rattle.stream.specs.Machine.{Place, newLine}
+use Rattle.stream.specs.Sheet.{machine, placeOf}
+use Rattle.stream.proofs.Progress.{Reached, begin, scanned, answered, at-end, no-room, stopped}
+use Rattle.stream.proofs.Kept.{rest-length, rest-within, rest-put}
 use Rattle.stream.proofs.feed.Statement.{statement}
 use Rattle.stream.proofs.feed.Tie as tie
 
 abbrev Inv-loop : tie.InvT-loop
-Inv-loop piece out₀ held₀ i₀ written₀ out held i written = Reached (line held₀) piece out₀ out (line held) i written
+Inv-loop piece out₀ here₀ i₀ written₀ end₀ out here i written end =
+    (end ≡ findByte 10 piece i) × Reached machine (placeOf here₀) piece out₀ out (placeOf here) i written
 
 abbrev μ-loop : tie.MeasureT-loop
-μ-loop piece out₀ held₀ i₀ written₀ out held i written = length piece - i
+μ-loop piece out₀ here₀ i₀ written₀ end₀ out here i written end = length piece - i
 
-below : (n m : ℕ) → n ≤ m → (n ≡ m → ⊥) → n < m
-below n m h k = omega arith
+-- ---- at the loop's head: how far the piece is read, and where the line there ends
+module _ (l : tie.At-loop Inv-loop μ-loop) where
+  abbrev start : tie.Start Inv-loop μ-loop
+  start = l .before .before .before .before
 
--- where the line ends that goes on
-ends : (c : tie.After-find-byte Inv-loop μ-loop) → Ended 10 (c .before .before .before .before .before .args .piece .now) (c .before .before .loop .i) (c .find-byte .result)
-ends c = ended (c .before .before .loop .inv .high) (c .find-byte .ensures)
+  ends : Ended 10 (start .args .piece .now) (l .loop .i) (l .loop .end)
+  ends = ended (l .loop .inv .1 .high) (l .loop .inv .0)
 
-loop-holds : tie.Need-loop-holds Inv-loop μ-loop
-loop-holds c = let s = c .before .before in begin (line (s .args .h)) (s .args .piece .now) (s .args .out .now)
+  same : length (l .loop .out) ≡ length (start .args .out .now)
+  same = kept (l .loop .inv .1 .wrote)
+
+  within : l .loop .written ≤ length (l .loop .out)
+  within = omega (arith, same, l .loop .inv .1 .within)
 
 find-byte-requires : tie.Need-find-byte-requires Inv-loop μ-loop
 find-byte-requires c κs = search needs
+
+loop-holds : tie.Need-loop-holds Inv-loop μ-loop
+loop-holds c =
+    let s = c .before .before .before in
+    (c .find-byte .ensures, begin machine (placeOf (s .args .place)) (s .args .piece .now) (s .args .out .now))
+
+sub-if1 : tie.Need-sub-if1 Inv-loop μ-loop
+sub-if1 c = within (c .before)
+
+sub-answer-ended : tie.Need-sub-answer-ended Inv-loop μ-loop
+sub-answer-ended c = within (c .before .before)
+
+part-answer-ended-start : tie.Need-part-answer-ended-start Inv-loop μ-loop
+part-answer-ended-start c = omega (arith, within (c .before .before))
+
+part-answer-ended-end : tie.Need-part-answer-ended-end Inv-loop μ-loop
+part-answer-ended-end c = omega (arith, within (c .before .before))
+
+-- ---- a newline with room for an answer, and the line answered
+module _ (t : tie.Then1 Inv-loop μ-loop) where
+  abbrev head : tie.At-loop Inv-loop μ-loop
+  head = t .before .before
+
+  room : answer-room ≤ length (head .loop .out) - head .loop .written
+  room = omega (arith, leb-true)
+
+answer-ended-requires : tie.Need-answer-ended-requires Inv-loop μ-loop
+answer-ended-requires c κs =
+    let l = head (c .before) in
+    (ends l .low, ends l .high, omega (arith, room (c .before), rest-length (l .loop .out) (l .loop .written) (within l)))
+
+module _ (c : tie.After-answer-ended Inv-loop μ-loop) where
+  abbrev turn : tie.At-loop Inv-loop μ-loop
+  turn = head (c .before .before)
+
+  abbrev at : ℕ
+  at = turn .loop .written
+
+  abbrev out : List ℕ
+  out = turn .loop .out
+
+  abbrev after : List ℕ
+  after = putMid at (length out - at) out (c .answer-ended .last .1 .1 .1 .1 .0)
+
+  fits : at + c .answer-ended .result .written ≤ length out
+  fits = rest-within out at (within turn) (c .answer-ended .ensures .bytes) (c .answer-ended .kept .1 .1 .1 .1 .0)
+
+  goes-on : {r : Place State} → r ≡ newLine (c .answer-ended .result .state) →
+      Reached machine (placeOf (start turn .args .place)) (start turn .args .piece .now) (start turn .args .out .now) after
+      r (turn .loop .end + 1) (at + c .answer-ended .result .written)
+  goes-on n =
+      let e = ends turn in
+      let h = c .before .before .before .loop-test .taken in
+      let told = c .answer-ended .ensures in
+      answered machine (scanned machine (turn .loop .inv .1) e) h (e .mark h) (omega (arith, room (c .before .before), same turn))
+      (n ∙ ap (λ (s : State). newLine s) (told .state))
+      (rest-put out at (within turn) (told .bytes) (c .answer-ended .kept .1 .1 .1 .1 .0))
+      (omega (arith, fits, same turn))
+
+new-line-requires : tie.Need-new-line-requires Inv-loop μ-loop
+new-line-requires c κs = search needs
+
+add-written : tie.Need-add-written Inv-loop μ-loop
+add-written c =
+    let a = c .before .before .before .before .before in
+    omega (arith, fits a, same (turn a), start (turn a) .good .1 .1 .0 .0)
+
+add-i : tie.Need-add-i Inv-loop μ-loop
+add-i c =
+    let a = c .before .before .before .before .before in
+    omega (arith, a .before .before .before .loop-test .taken, start (turn a) .good .1 .0 .0)
+
+find-byte-requires-2 : tie.Need-find-byte-requires-2 Inv-loop μ-loop
+find-byte-requires-2 c κs = search needs
+
+loop-less : tie.Need-loop-less Inv-loop μ-loop
+loop-less c =
+    let a = c .before .before .before .before .before .before in
+    omega (arith, ends (turn a) .low, a .before .before .before .loop-test .taken)
+
+loop-again : tie.Need-loop-again Inv-loop μ-loop
+loop-again c =
+    let n = c .before .before in
+    (c .find-byte2 .ensures, goes-on (n .before .before .before .before) (n .new-line .ensures))
 
 extended-requires : tie.Need-extended-requires Inv-loop μ-loop
 extended-requires c κs = let e = ends (c .before) in (e .low, e .high)
 
 same-length : tie.Need-same-length Inv-loop μ-loop
-same-length c = kept (c .before .before .before .before .loop .inv .wrote)
+same-length c = same (c .before .before)
 
 returns : tie.Need-returns Inv-loop μ-loop
 returns c =
-    let t = c .before in
-    let e = t .before in
-    let r = scanned (e .before .before .loop .inv) (ends e) in
-    stopped r (at-end r (t .if1 .taken)) (c .extended .ensures)
-
-sub-if2 : tie.Need-sub-if2 Inv-loop μ-loop
-sub-if2 c = let r = c .before .before .before .loop .inv in omega (arith, kept (r .wrote), r .within)
-
-extended-requires-2 : tie.Need-extended-requires-2 Inv-loop μ-loop
-extended-requires-2 c κs = let e = ends (c .before .before) in (e .low, e .high)
-
-same-length-2 : tie.Need-same-length-2 Inv-loop μ-loop
-same-length-2 c = kept (c .before .before .before .before .before .loop .inv .wrote)
-
-returns-2 : tie.Need-returns-2 Inv-loop μ-loop
-returns-2 c =
-    let t = c .before in
-    let e = t .before .before in
-    let l = e .before .before in
-    let r = scanned (l .loop .inv) (ends e) in
-    let h = below _ _ (ends e .high) (t .before .if1 .left) in
-    stopped r (no-room r h (ends e .mark h) (omega (arith, t .if2 .taken, kept (l .loop .inv .wrote)))) (c .extended2 .ensures)
-
-answer-from-requires : tie.Need-answer-from-requires Inv-loop μ-loop
-answer-from-requires c κs =
-    let t = c .before in
-    let e = t .before .before in
-    let r = e .before .before .loop .inv in
-    (ends e .low, ends e .high, omega (arith, t .if2 .left, kept (r .wrote), r .within))
-
-empty-requires : tie.Need-empty-requires Inv-loop μ-loop
-empty-requires c κs = search needs
-
-add-i : tie.Need-add-i Inv-loop μ-loop
-add-i c = let e = c .before .before .before .before .before .before .before in omega (arith, ends e .high)
-
-loop-less : tie.Need-loop-less Inv-loop μ-loop
-loop-less c = let e = c .before .before .before .before .before .before .before in omega (arith, ends e .low)
-
-loop-again : tie.Need-loop-again Inv-loop μ-loop
-loop-again c =
-    let a = c .before .before .before in
-    let t = a .before .before in
-    let e = t .before .before in
-    let l = e .before .before in
-    let r = scanned (l .loop .inv) (ends e) in
-    let h = below _ _ (ends e .high) (t .before .if1 .left) in
-    let same = kept (l .loop .inv .wrote) in
-    let told = a .answer-from .ensures in
-    rw (c .empty .ensures)
-    (line-answered r h (ends e .mark h) (omega (arith, t .if2 .left, same)) (told .wrote) (omega (arith, told .within, same)))
-
-extended-requires-3 : tie.Need-extended-requires-3 Inv-loop μ-loop
-extended-requires-3 c κs = (omega arith, c .before .loop .inv .high)
-
-same-length-3 : tie.Need-same-length-3 Inv-loop μ-loop
-same-length-3 c = kept (c .before .before .loop .inv .wrote)
-
-returns-3 : tie.Need-returns-3 Inv-loop μ-loop
-returns-3 c =
-    let a = c .before in
-    let l = a .before in
-    let r = l .loop .inv in
-    let s = l .before .before .before in
-    let e = c .extended3 .ensures ∙ ap (λ (t : List ℕ). take 117 (line (l .loop .held) ++ t)) (slice-empty (l .loop .i) (s .args .piece .now))
-    ∙ ap (take 117) (append-nil (line (l .loop .held))) in
-    stopped r (at-end r (omega (arith, r .high))) e
+    let l = c .before .before in
+    let r = scanned machine (l .loop .inv .1) (ends l) in
+    stopped machine r
+    (⊎-elim
+    (λ w. no-room machine r (w .0 .taken) (ends l .mark (w .0 .taken))
+    (omega (arith, leb-false, w .1 .left, same l)))
+    (λ w. at-end machine r (w .left))
+    (c .before .loop-test .came))
+    (c .extended .ensures)
 
 pub feed-spec : {M : Type 1} → statement M
 feed-spec =
@@ -114,20 +152,19 @@ feed-spec =
     (tie.spec
     Inv-loop
     μ-loop
-    loop-holds
     find-byte-requires
-    extended-requires
-    same-length
-    returns
-    sub-if2
-    extended-requires-2
-    same-length-2
-    returns-2
-    answer-from-requires
-    empty-requires
+    loop-holds
+    sub-if1
+    sub-answer-ended
+    part-answer-ended-start
+    part-answer-ended-end
+    answer-ended-requires
+    new-line-requires
+    add-written
     add-i
+    find-byte-requires-2
     loop-less
     loop-again
-    extended-requires-3
-    same-length-3
-    returns-3)
+    extended-requires
+    same-length
+    returns)

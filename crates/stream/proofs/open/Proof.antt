@@ -7,7 +7,8 @@ use native.Mathlib.Omega.{arith}
 use borrow.Author.Tests.{lt-ltb, le-ltb}
 use lib.ListN.{length, drop, length-set}
 use lib.Seq.{sets, drop-cons}
-use Rattle.text.specs.Put.{Put, to-front}
+use Rattle.buffer.specs.Code.{Put}
+use Rattle.buffer.proofs.Put.{to-front}
 use Rattle.stream.specs.Sheet.{heading}
 use Rattle.stream.proofs.open.Statement.{statement}
 use Rattle.stream.proofs.open.Tie as tie

@@ -1,7 +1,7 @@
 -- `tables::cell_of` meets its contract: each test that is met says where the cell is not, and the four that are not met where it is.
-use Rattle.word.specs.Fits.{back}
-use Rattle.word.specs.Compare.{ltZ-true, ltZ-false}
-use Rattle.tables.specs.CellNumber.{no-column-below, no-column-above, no-row-below, no-row-above, cell-found, cell-fits}
+use Rattle.word.proofs.Fits.{back}
+use Rattle.word.proofs.Compare.{ltZ-true, ltZ-false}
+use Rattle.tables.proofs.CellNumber.{no-column-below, no-column-above, no-row-below, no-row-above, cell-found, cell-fits}
 use Rattle.tables.proofs.cell_of.Statement.{statement}
 use Rattle.tables.proofs.cell_of.Tie as tie
 

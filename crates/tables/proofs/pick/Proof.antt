@@ -5,16 +5,19 @@ use lib.IntN.{pos, negsuc}
 use lib.ListN.{getD}
 use borrow.Author.Tests.{not-true, not-false}
 use borrow.Author.Needs.{needs}
-use Rattle.word.specs.Fits.{back, sfits-mag}
 use Rattle.word.specs.Compare.{between}
+use Rattle.word.proofs.Fits.{back, sfits-mag}
 use Rattle.point.specs.Digit.{Trit}
-use Rattle.entries.specs.Rows.{none}
-use Rattle.tables.specs.Digits.{bySign, by-sign, trit-of, outside}
+use Rattle.table_numbers.specs.Rows.{none}
+use Rattle.table_numbers.proofs.DigitPlaces.{trit-of, outside}
+use Rattle.tables.specs.Code.{bySign}
+use Rattle.tables.proofs.Signs.{by-sign}
 use Rattle.tables.proofs.pick.Statement.{statement}
 use Rattle.tables.proofs.pick.Tie as tie
 
 digit : (c : tie.Else1) → Trit (c .before .before .args .dy)
-digit c = let s = c .before .before in trit-of (s .args .dy) (simp (back, s .fits .dy) at (sym (c .before .is-between .ensures) ∙ not-false _ (c .if1 .left)))
+digit c = let s = c .before .before in
+    trit-of (s .args .dy) (simp (back, s .fits .dy) at (sym (c .before .is-between .ensures) ∙ not-false _ (c .if1 .left)))
 
 is-between-requires : tie.Need-is-between-requires
 is-between-requires c κs = search needs
@@ -22,7 +25,8 @@ is-between-requires c κs = search needs
 returns : tie.Need-returns
 returns c =
     let s = c .before .before in
-    let t : between (negsuc 0) (pos 1) (s .args .dy) ≡ false = simp (back, s .fits .dy) at (sym (c .before .is-between .ensures) ∙ not-true _ (c .if1 .taken)) in
+    let t : between (negsuc 0) (pos 1) (s .args .dy) ≡ false = simp (back, s .fits .dy) at
+    (sym (c .before .is-between .ensures) ∙ not-true _ (c .if1 .taken)) in
     sym (outside (s .args .t1) none (s .args .dy) t)
 
 array-copy-out-minus : tie.Need-array-copy-out-minus
@@ -59,8 +63,10 @@ returns-2 c =
     let minus-im = back (sfits-mag (getD row 0 none .im) (t4 .struct-told4 .given .1 .0 .1)) in
     let zero-im = back (sfits-mag (getD row 1 none .im) (t5 .struct-told5 .given .1 .0 .1)) in
     let plus-im = back (sfits-mag (getD row 2 none .im) (t6 .struct-told6 .given .1 .0 .1)) in
-    let re = back (sfits-mag (b .by-sign .result) (b .by-sign .ok)) ∙ (b .by-sign .ensures ∙ (λ i. bySign (dy i) (minus-re i) (zero-re i) (plus-re i))) in
-    let im = back (sfits-mag (c .by-sign2 .result) (c .by-sign2 .ok)) ∙ (c .by-sign2 .ensures ∙ (λ i. bySign (dy i) (minus-im i) (zero-im i) (plus-im i))) in
+    let re = back (sfits-mag (b .by-sign .result) (b .by-sign .ok))
+    ∙ (b .by-sign .ensures ∙ (λ i. bySign (dy i) (minus-re i) (zero-re i) (plus-re i))) in
+    let im = back (sfits-mag (c .by-sign2 .result) (c .by-sign2 .ok))
+    ∙ (c .by-sign2 .ensures ∙ (λ i. bySign (dy i) (minus-im i) (zero-im i) (plus-im i))) in
     (λ i. record { re = re i; im = im i }) ∙ by-sign row none (digit e)
 
 pub pick-spec : {M : Type 1} → statement M

@@ -1,10 +1,10 @@
 -- `tables::reciprocal` meets its contract: the look-up's, at the cell's number.
 use mathlib.Core.Path.{_∙_, ap, ap₂}
 use borrow.Author.Needs.{needs}
-use Rattle.word.specs.Fits.{back}
-use Rattle.entries.specs.Cell.{cellOf}
-use Rattle.entries.specs.Rows.{reciprocalAt}
-use Rattle.tables.specs.Promised.{reciprocal-kept}
+use Rattle.word.proofs.Fits.{back}
+use Rattle.table_numbers.specs.Cell.{cellOf}
+use Rattle.table_numbers.specs.Rows.{reciprocalAt}
+use Rattle.table_numbers.proofs.Promised.{reciprocal-kept}
 use Rattle.tables.proofs.reciprocal.Statement.{statement}
 use Rattle.tables.proofs.reciprocal.Tie as tie
 

@@ -1,22 +1,23 @@
 -- `tables::row` meets its contract: the look-up's, at the row's number.
-use mathlib.Core.Path.{_≡_, sym, _∙_, ap}
+use mathlib.Core.Path.{_≡_, sym, _∙_}
 use mathlib.Core.Bool.{false}
 use mathlib.Core.Logic.{inr}
 use native.Mathlib.Omega.{arith}
 use lib.IntN.{pos, negsuc}
 use borrow.Author.Tests.{not-true, not-false}
 use borrow.Author.Needs.{needs}
-use Rattle.word.specs.Fits.{back}
 use Rattle.word.specs.Compare.{between}
+use Rattle.word.proofs.Fits.{back}
 use Rattle.point.specs.Digit.{Trit}
-use Rattle.tables.specs.Digits.{place-lt, next-fits, place-word, trit-of}
-use Rattle.entries.specs.Rows.{no-step}
-use Rattle.tables.specs.Promised.{row-kept, no-digit, row-at}
+use Rattle.table_numbers.proofs.RowLaws.{no-step}
+use Rattle.table_numbers.proofs.DigitPlaces.{place-lt, next-fits, place-word, trit-of}
+use Rattle.table_numbers.proofs.Promised.{row-kept, no-digit, row-at}
 use Rattle.tables.proofs.row.Statement.{statement}
 use Rattle.tables.proofs.row.Tie as tie
 
 digit : (c : tie.Else2) → Trit (c .before .before .before .args .dx)
-digit c = let s = c .before .before .before in trit-of (s .args .dx) (simp (back, s .fits .dx) at (sym (c .before .is-between .ensures) ∙ not-false _ (c .if2 .left)))
+digit c = let s = c .before .before .before in
+    trit-of (s .args .dx) (simp (back, s .fits .dx) at (sym (c .before .is-between .ensures) ∙ not-false _ (c .if2 .left)))
 
 returns : tie.Need-returns
 returns c = let s = c .before in row-kept (s .args .n) (s .args .dx) (no-step (s .args .n) (s .args .dx) (inr (search needs)))
@@ -27,7 +28,8 @@ is-between-requires c κs = search needs
 returns-2 : tie.Need-returns-2
 returns-2 c =
     let s = c .before .before .before in
-    let t : between (negsuc 0) (pos 1) (s .args .dx) ≡ false = simp (back, s .fits .dx) at (sym (c .before .is-between .ensures) ∙ not-true _ (c .if2 .taken)) in
+    let t : between (negsuc 0) (pos 1) (s .args .dx) ≡ false = simp (back, s .fits .dx) at
+    (sym (c .before .is-between .ensures) ∙ not-true _ (c .if2 .taken)) in
     row-kept (s .args .n) (s .args .dx) (no-digit (s .args .n) (s .args .dx) t)
 
 mul-row-at : tie.Need-mul-row-at

@@ -4,12 +4,13 @@ use mathlib.Core.List.{List}
 use Prim.Native.Nat.{ℕ, _+_}
 use native.Mathlib.Omega.{arith}
 use lib.Seq.{slice}
-use Rattle.word.specs.Fits.{back}
-use Rattle.scan.specs.Find.{Ended, ended}
-use Rattle.text.specs.Fields.{fieldsAt, sameBytes, same-word}
-use Rattle.text.specs.Line.{EXP, LOG, kindLine}
-use Rattle.text.specs.Parse.{kind-missing, kind-field, byKind}
 use borrow.Author.Needs.{needs}
+use Rattle.word.proofs.Fits.{back}
+use Rattle.buffer.specs.Fields.{fieldsAt, sameBytes}
+use Rattle.buffer.proofs.Find.{Ended, ended}
+use Rattle.buffer.proofs.Fields.{same-word}
+use Rattle.text.specs.Line.{EXP, LOG, kindLine}
+use Rattle.text.proofs.Parse.{kind-missing, kind-field, byKind}
 use Rattle.text.proofs.kind_line.Statement.{statement}
 use Rattle.text.proofs.kind_line.Tie as tie
 
@@ -27,15 +28,16 @@ module _ (c : tie.After-find-byte) where
   field : Ended 9 line (start .args .at) (c .find-byte .result)
   field = ended (c .before .if1 .left) (c .find-byte .ensures)
 
-  words : kindLine (start .args .serial) (fieldsAt line (start .args .at)) ≡ byKind (start .args .serial) kind (fieldsAt line (c .find-byte .result + 1))
+  words : kindLine (start .args .serial) (fieldsAt line (start .args .at)) ≡ byKind (start .args .serial) kind
+      (fieldsAt line (c .find-byte .result + 1))
   words = kind-field (start .args .serial) (c .before .if1 .left) field
 
 -- which of the two words it is
-is-exp : (c : tie.After-is-word) → sameBytes (kind (c .before .before)) EXP ≡ c .is-word .result
-is-exp c = same-word (kind (c .before .before)) (c .is-word .ensures) refl
+is-exp : (c : tie.After-same-bytes) → sameBytes (kind (c .before .before)) EXP ≡ c .same-bytes .result
+is-exp c = same-word (kind (c .before .before)) (c .same-bytes .ensures) refl
 
-is-log : (c : tie.After-is-word2) → sameBytes (kind (c .before .before .before .before .before)) LOG ≡ c .is-word2 .result
-is-log c = same-word (kind (c .before .before .before .before .before)) (c .is-word2 .ensures) refl
+is-log : (c : tie.After-same-bytes2) → sameBytes (kind (c .before .before .before .before .before)) LOG ≡ c .same-bytes2 .result
+is-log c = same-word (kind (c .before .before .before .before .before)) (c .same-bytes2 .ensures) refl
 
 returns : tie.Need-returns
 returns c =
@@ -45,11 +47,11 @@ returns c =
 find-byte-requires : tie.Need-find-byte-requires
 find-byte-requires c κs = search needs
 
-slice-aggregate-is-word : tie.Need-slice-aggregate-is-word
-slice-aggregate-is-word c = search needs
+slice-aggregate-same-bytes : tie.Need-slice-aggregate-same-bytes
+slice-aggregate-same-bytes c = search needs
 
-is-word-requires : tie.Need-is-word-requires
-is-word-requires c κs = let f = field (c .before) in (f .low, f .high)
+same-bytes-requires : tie.Need-same-bytes-requires
+same-bytes-requires c κs = search needs
 
 add-exp-line : tie.Need-add-exp-line
 add-exp-line c = omega (arith, field (c .before .before .before) .high)
@@ -64,11 +66,11 @@ returns-2 c =
     let b = back (start f .fits .serial) in
     rw (words f, is-exp w ∙ c .before .if2 .taken) (rw b at (c .exp-line .ensures))
 
-slice-aggregate-is-word-2 : tie.Need-slice-aggregate-is-word-2
-slice-aggregate-is-word-2 c = search needs
+slice-aggregate-same-bytes-2 : tie.Need-slice-aggregate-same-bytes-2
+slice-aggregate-same-bytes-2 c = search needs
 
-is-word-requires-2 : tie.Need-is-word-requires-2
-is-word-requires-2 c κs = let f = field (c .before .before .before .before) in (f .low, f .high)
+same-bytes-requires-2 : tie.Need-same-bytes-requires-2
+same-bytes-requires-2 c κs = search needs
 
 add-log-line : tie.Need-add-log-line
 add-log-line c = omega (arith, field (c .before .before .before .before .before .before) .high)
@@ -97,13 +99,13 @@ kind-line-spec =
     (tie.spec
     returns
     find-byte-requires
-    slice-aggregate-is-word
-    is-word-requires
+    slice-aggregate-same-bytes
+    same-bytes-requires
     add-exp-line
     exp-line-requires
     returns-2
-    slice-aggregate-is-word-2
-    is-word-requires-2
+    slice-aggregate-same-bytes-2
+    same-bytes-requires-2
     add-log-line
     log-line-requires
     returns-3

@@ -1,6 +1,6 @@
 -- `text::log_line` meets its contract: so many numbers, each in its place.
-use Rattle.word.specs.Fits.{back, sfits-mag}
 use borrow.Author.Needs.{needs}
+use Rattle.word.proofs.Fits.{back, sfits-mag}
 use Rattle.text.proofs.log_line.Statement.{statement}
 use Rattle.text.proofs.log_line.Tie as tie
 

@@ -1,9 +1,8 @@
 -- `text::put_answer` meets its contract: the figures as a line, or the refusal.
-use mathlib.Core.Path.{refl}
-use Rattle.word.specs.Fits.{back}
-use Rattle.answer.specs.Record.{recordOf}
-use Rattle.text.specs.Call.{turned-away}
 use borrow.Author.Needs.{needs}
+use Rattle.word.proofs.Fits.{back}
+use Rattle.answer.specs.Record.{recordOf}
+use Rattle.text.proofs.Call.{turned-away}
 use Rattle.text.proofs.put_answer.Statement.{statement}
 use Rattle.text.proofs.put_answer.Tie as tie
 
@@ -11,10 +10,7 @@ enum-known-answer : tie.Need-enum-known-answer
 enum-known-answer c = search needs
 
 put-figures-requires : tie.Need-put-figures-requires
-put-figures-requires c κs =
-    let a = c .before .before in
-    let s = a .before .before .before in
-    rw (back (s .fits .serial), back (s .fits .n)) (s .pre .0, s .pre .1, rw (a .answer .given .1) at (s .pre .2))
+put-figures-requires c κs = search needs
 
 enum-known-answer-2 : tie.Need-enum-known-answer-2
 enum-known-answer-2 c = search needs
@@ -34,7 +30,7 @@ returns c =
     let p = c .before .before in
     let a = p .before .before .before in
     let s = a .before .before .before in
-    rw (a .answer .given .1) (record { refused = refl; wrote = rw (back (s .fits .serial), back (s .fits .n)) at (p .put-figures .ensures) })
+    rw (a .answer .given .1) (rw (back (s .fits .serial), back (s .fits .n)) at (p .put-figures .ensures))
 
 same-length-2 : tie.Need-same-length-2
 same-length-2 c = search needs

@@ -1,12 +1,12 @@
--- `text::put_figures` meets its contract: the line of each kind has room, and its fields are the definition's.
-use native.Mathlib.Omega.{arith}
+-- `text::put_figures` meets its contract: the fields of each kind are the definition's.
+use mathlib.Core.Path.{refl}
 use mir.Syntax.{w64}
 use mir.Val.{SFits}
-use Rattle.word.specs.Fits.{back, sfits-mag}
+use borrow.Author.Needs.{needs}
+use Rattle.word.proofs.Fits.{back, sfits-mag}
 use Rattle.answer.specs.declared.Figures.{Figures}
 use Rattle.answer.specs.Record.{recordOf}
-use Rattle.text.specs.Layout.{answer-room, fits-back}
-use borrow.Author.Needs.{needs}
+use Rattle.text.proofs.Call.{replied}
 use Rattle.text.proofs.put_figures.Statement.{statement}
 use Rattle.text.proofs.put_figures.Tie as tie
 
@@ -42,7 +42,8 @@ returns c =
     let t = e .before .before in
     let s = start t in
     rw (e .enum-told .given .1)
-    (rw (back (s .fits .serial), back (s .fits .n), back (fit-x t), back (fit-y t), back (fit-bound t)) at (p .put-line .ensures))
+    (replied refl
+    (rw (back (s .fits .serial), back (s .fits .n), back (fit-x t), back (fit-y t), back (fit-bound t)) at (p .put-line .ensures)))
 
 returns-2 : tie.Need-returns-2
 unfolding recordOf
@@ -52,26 +53,17 @@ returns-2 c =
     let t = e .before .before in
     let s = start t in
     rw (e .enum-told2 .given .1)
-    (rw (back (s .fits .serial), back (s .fits .n), back (fit-x t), back (fit-y t), back (fit-k t), back (fit-q t), back (fit-bound t)) at (p .put-line2 .ensures))
-
--- ---- the room
-put-line-requires : tie.Need-put-line-requires
-put-line-requires c κs =
-    let t = c .before .before .before .before .before in
-    let s = start t in
-    -- 7 + 3 + 2 + 3·21 + 3 bytes
-    rw (back (s .fits .serial), back (s .fits .n))
-    (answer-room _ _ _ _ (s .pre .1) (s .pre .2) (search (fits-back, fit-x t, fit-y t, fit-bound t)) (omega (arith, s .pre .0)))
-
-put-line-requires-2 : tie.Need-put-line-requires-2
-put-line-requires-2 c κs =
-    let t = c .before .before .before .before .before in
-    let s = start t in
-    -- 7 + 3 + 2 + 5·21 + 3 bytes
-    rw (back (s .fits .serial), back (s .fits .n))
-    (answer-room _ _ _ _ (s .pre .1) (s .pre .2) (search (fits-back, fit-x t, fit-y t, fit-k t, fit-q t, fit-bound t)) (omega (arith, s .pre .0)))
+    (replied refl
+    (rw (back (s .fits .serial), back (s .fits .n), back (fit-x t), back (fit-y t), back (fit-k t), back (fit-q t), back (fit-bound t)) at
+    (p .put-line2 .ensures)))
 
 -- ---- the other needs
+put-line-requires : tie.Need-put-line-requires
+put-line-requires c κs = search needs
+
+put-line-requires-2 : tie.Need-put-line-requires-2
+put-line-requires-2 c κs = search needs
+
 enum-told : tie.Need-enum-told
 enum-told c = search needs
 

@@ -7,15 +7,16 @@ use native.Mathlib.Omega.{arith}
 use lib.IntN.{ℤ, pos}
 use mir.Syntax.{w64}
 use mir.Val.{SFits}
-use Rattle.algebra.specs.Order.{_⩽_, _⋖_}
-use Rattle.word.specs.Fits.{back, sfits-mag}
-use Rattle.word.specs.Compare.{ltZ-true, ltZ-false, between, is-between, below-between, above-between}
-use Rattle.scan.specs.Find.{Ended, ended}
-use Rattle.text.specs.Fields.{fieldsAt}
-use Rattle.text.specs.Line.{readLine, serialLine, kindLine}
-use Rattle.text.specs.Parse.{serial-field}
-use Rattle.text.specs.declared.Line.the-variants.{Malformed}
 use borrow.Author.Needs.{needs}
+use Rattle.algebra.specs.Order.{_⩽_, _⋖_}
+use Rattle.word.specs.Compare.{between}
+use Rattle.word.proofs.Fits.{back, sfits-mag}
+use Rattle.word.proofs.Compare.{ltZ-true, ltZ-false, is-between, below-between, above-between}
+use Rattle.buffer.specs.Fields.{fieldsAt}
+use Rattle.buffer.proofs.Find.{Ended, ended}
+use Rattle.text.specs.declared.Line.the-variants.{Malformed}
+use Rattle.text.specs.Line.{readLine, serialLine, kindLine}
+use Rattle.text.proofs.Parse.{serial-field}
 use Rattle.text.proofs.read_line.Statement.{statement}
 use Rattle.text.proofs.read_line.Tie as tie
 
@@ -60,7 +61,7 @@ find-byte-requires : tie.Need-find-byte-requires
 find-byte-requires c κs = search needs
 
 read-number-requires : tie.Need-read-number-requires
-read-number-requires c κs = let f = first c in (f .low, f .high)
+read-number-requires c κs = search needs
 
 enum-known-serial : tie.Need-enum-known-serial
 enum-known-serial c = search needs

@@ -1,12 +1,8 @@
 -- `text::refused` meets its contract.
 use mathlib.Core.Path.{refl}
-use mathlib.Core.List.{[]}
-use native.Mathlib.Omega.{arith}
-use Rattle.word.specs.Fits.{back}
-use Rattle.text.specs.Line.{REF}
-use Rattle.text.specs.Written.{short-number}
-use Rattle.text.specs.Layout.{line-room}
 use borrow.Author.Needs.{needs}
+use Rattle.word.proofs.Fits.{back}
+use Rattle.text.proofs.Call.{replied}
 use Rattle.text.proofs.refused.Statement.{statement}
 use Rattle.text.proofs.refused.Tie as tie
 
@@ -17,10 +13,7 @@ slice-aggregate-put-line-2 : tie.Need-slice-aggregate-put-line-2
 slice-aggregate-put-line-2 c = search needs
 
 put-line-requires : tie.Need-put-line-requires
-put-line-requires c κs =
-    let s = c .before .before .before .before in
-    rw (back (s .fits .serial), back (s .fits .refusal))
-    (omega (arith, s .pre, line-room (s .args .serial) REF (s .args .refusal) [] (short-number _ (s .fits .serial)) (short-number _ (s .fits .refusal)) tt))
+put-line-requires c κs = search needs
 
 same-length : tie.Need-same-length
 same-length c = search needs
@@ -28,8 +21,8 @@ same-length c = search needs
 returns : tie.Need-returns
 returns c =
     let s = c .before .before .before .before .before .before .before in
-    rw (back (s .fits .refusal))
-    (record { refused = refl; wrote = rw (back (s .fits .serial), back (s .fits .refusal)) at (c .before .before .put-line .ensures) })
+    rw (back (s .fits .refusal)) (replied refl
+    (rw (back (s .fits .serial), back (s .fits .refusal)) at (c .before .before .put-line .ensures)))
 
 pub refused-spec : {M : Type 1} → statement M
 refused-spec =

@@ -1,7 +1,7 @@
 -- `word::magnitude` meets its contract.
 use native.Mathlib.Omega.{arith}
-use Rattle.word.specs.Fits.{back, sfits-pos}
-use Rattle.word.specs.Bits.{Negative, negative, Nonnegative, nonnegative}
+use Rattle.word.proofs.Fits.{back, sfits-pos}
+use Rattle.word.proofs.Bits.{Negative, negative, Nonnegative, nonnegative}
 use Rattle.word.proofs.magnitude.Statement.{statement}
 use Rattle.word.proofs.magnitude.Tie as tie
 

@@ -1,6 +1,6 @@
 -- `answer::Answer::record` meets its contract.
 use borrow.Author.Needs.{needs}
-use Rattle.word.specs.Fits.{back, sfits-mag}
+use Rattle.word.proofs.Fits.{back, sfits-mag}
 use Rattle.answer.specs.Record.{recordOf}
 use Rattle.answer.proofs.Answer.record.Statement.{statement}
 use Rattle.answer.proofs.Answer.record.Tie as tie
@@ -28,7 +28,8 @@ returns-2 : tie.Need-returns-2
 unfolding recordOf
 returns-2 c =
     let n = c .before in
-    rw (n .before .before .self2 .given .1, ← n .number .ensures) (rw (back (sfits-mag (n .number .result) (n .number .ok))) at (c .numbers2 .ensures))
+    rw (n .before .before .self2 .given .1, ← n .number .ensures)
+    (rw (back (sfits-mag (n .number .result) (n .number .ok))) at (c .numbers2 .ensures))
 
 pub record-spec : {M : Type 1} → statement M
 record-spec =

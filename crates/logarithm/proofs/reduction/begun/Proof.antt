@@ -7,20 +7,20 @@ use lib.Signed.{shrZ}
 use mir.Syntax.{w64}
 use mir.Val.{SFits, toZ, ofZ}
 use borrow.Author.Needs.{needs}
-use Rattle.algebra.specs.Gauss.{𝔾, _*ᵍ_, negᵍ}
-use Rattle.algebra.specs.Power.{two}
-use Rattle.algebra.specs.Parts.{Parts, floorᵍ}
-use Rattle.word.specs.Fits.{back, sfits-mag}
-use Rattle.word.specs.Shift.{sfits-shift}
+use Rattle.algebra.specs.Gauss.{𝔾, _*ᵍ_, negᵍ, two}
+use Rattle.algebra.specs.Size.{Parts}
+use Rattle.algebra.specs.Rounding.{floorᵍ}
+use Rattle.word.proofs.Fits.{back, sfits-mag}
+use Rattle.word.proofs.Shift.{sfits-shift}
 use Rattle.point.specs.declared.Point.{Point}
 use Rattle.point.specs.Point.{gauss, point}
-use Rattle.entries.specs.Reciprocal.{reciprocal, centre, InTable}
-use Rattle.entries.specs.Table.{reciprocalTable}
-use Rattle.entries.specs.Promise48.{reciprocal-promise}
-use Rattle.entries.specs.Rows.{number}
-use Rattle.logarithm.specs.Scale.{scaled}
-use Rattle.logarithm.specs.Cell.{column, row, cellX, cellY, reciprocalOf, reduced}
-use Rattle.logarithm.specs.Fits.{ReducePre, in-cell, reduce-ok, log-parts}
+use Rattle.table_numbers.specs.Reciprocal.{reciprocal, centre, InTable}
+use Rattle.table_numbers.specs.Table.{reciprocalTable}
+use Rattle.table_numbers.specs.Rows.{number}
+use Rattle.table_numbers.proofs.Promise48.{reciprocal-promise}
+use Rattle.logarithm.specs.Reduction.{scaled, column, row, cellX, cellY, reciprocalOf, reduced}
+use Rattle.logarithm.specs.Code.{ReducePre}
+use Rattle.logarithm.proofs.Fits.{in-cell, reduce-ok, log-parts}
 use Rattle.logarithm.proofs.reduction.begun.Statement.{statement}
 use Rattle.logarithm.proofs.reduction.begun.Tie as tie
 
@@ -40,20 +40,25 @@ module _ (c : tie.After-struct-told2) where
 
   column-is : cells (found .x) ≡ column 48 p
   unfolding column
-  column-is = cells-is (sfits-mag (found .x) (c .before .struct-told .given .0 .1)) ∙ ap (λ (q : Point). shrZ (q .x) (2 ^ 44)) (c .before .before .scaled .ensures)
+  column-is = cells-is (sfits-mag (found .x) (c .before .struct-told .given .0 .1)) ∙ ap (λ (q : Point). shrZ (q .x) (2 ^ 44))
+      (c .before .before .scaled .ensures)
 
   row-is : cells (found .y) ≡ row 48 p
   unfolding row
-  row-is = cells-is (sfits-mag (found .y) (c .struct-told2 .given .1 .0 .1)) ∙ ap (λ (q : Point). shrZ (q .y) (2 ^ 44)) (c .before .before .scaled .ensures)
+  row-is = cells-is (sfits-mag (found .y) (c .struct-told2 .given .1 .0 .1)) ∙ ap (λ (q : Point). shrZ (q .y) (2 ^ 44))
+      (c .before .before .scaled .ensures)
 
   cell : InTable (cells (found .x)) (cells (found .y))
   cell = subst₂ InTable (sym column-is) (sym row-is) (in-cell (lit≤ tt) (c .before .before .before .pre))
 
 reciprocal-is : (c : tie.After-reciprocal) → number (c .reciprocal .result) ≡ reciprocalOf 48 (p (c .before))
-reciprocal-is c = c .reciprocal .ensures .1 (cell (c .before)) ∙ ap₂ (λ i j. reciprocal (centre i) (centre j)) (column-is (c .before)) (row-is (c .before))
+reciprocal-is c = c .reciprocal .ensures .1 (cell (c .before)) ∙ ap₂ (λ i j. reciprocal (centre i) (centre j)) (column-is (c .before))
+    (row-is (c .before))
 
-log-is : (c : tie.After-reciprocal-log) → let q = p (c .before .before) in number (c .reciprocal-log .result) ≡ reciprocalTable (cellX 48 q) (cellY 48 q)
-log-is c = let b = c .before .before in ap number (c .reciprocal-log .ensures .0) ∙ ap₂ (λ i j. reciprocalTable (centre i) (centre j)) (column-is b) (row-is b)
+log-is : (c : tie.After-reciprocal-log) → let q = p (c .before .before) in
+    number (c .reciprocal-log .result) ≡ reciprocalTable (cellX 48 q) (cellY 48 q)
+log-is c = let b = c .before .before in ap number (c .reciprocal-log .ensures .0) ∙ ap₂ (λ i j. reciprocalTable (centre i) (centre j))
+    (column-is b) (row-is b)
 
 scaled-requires : tie.Need-scaled-requires
 scaled-requires c κs = search needs
@@ -68,10 +73,12 @@ reduced-requires : tie.Need-reduced-requires
 reduced-requires c κs =
     let r = c .before in
     let s = r .before .before .before in
-    subst (λ q. ReducePre 48 q (r .reciprocal .result)) (sym (s .scaled .ensures)) (reduce-ok (lit≤ tt) (s .before .pre) (r .reciprocal .result) (reciprocal-is r))
+    subst (λ q. ReducePre 48 q (r .reciprocal .result)) (sym (s .scaled .ensures))
+    (reduce-ok (lit≤ tt) (s .before .pre) (r .reciprocal .result) (reciprocal-is r))
 
 negated-requires : tie.Need-negated-requires
-negated-requires c κs = let l = c .before in subst (λ z. Parts z (two 61)) (sym (log-is l)) (log-parts (lit≤ tt) (l .before .before .before .before .before .pre) (lit≤ tt) reciprocalTable reciprocal-promise)
+negated-requires c κs = let l = c .before in subst (λ z. Parts z (two 61)) (sym (log-is l))
+    (log-parts (lit≤ tt) (l .before .before .before .before .before .pre) (lit≤ tt) reciprocalTable reciprocal-promise)
 
 returns : tie.Need-returns
 unfolding reduced
@@ -79,7 +86,8 @@ returns c =
     let r = c .before in
     let l = r .before in
     let s = l .before .before .before .before in
-    let e = r .reduced .ensures ∙ ap₂ (λ (z : 𝔾) (q : Point). point (floorᵍ (z *ᵍ gauss q) 64)) (reciprocal-is (l .before)) (s .scaled .ensures) in
+    let e = r .reduced .ensures ∙ ap₂ (λ (z : 𝔾) (q : Point). point (floorᵍ (z *ᵍ gauss q) 64)) (reciprocal-is (l .before))
+    (s .scaled .ensures) in
     let f = c .negated .ensures ∙ ap (λ z. point (negᵍ z)) (log-is l) in
     λ i. record { point = e i; sum = f i }
 

@@ -4,8 +4,8 @@ use mathlib.Core.Bool.{true, false, _&&_}
 use lib.IntN.{pos, _-ℤ_}
 use lib.Signed.{ltZ, leZ}
 use borrow.Author.Needs.{needs}
-use Rattle.word.specs.Fits.{back, zero-sub}
-use Rattle.point.specs.Fits.{point-fits}
+use Rattle.word.proofs.Fits.{back, zero-sub}
+use Rattle.point.proofs.Fits.{point-fits}
 use Rattle.logarithm.proofs.reduction.in_cone.Statement.{statement}
 use Rattle.logarithm.proofs.reduction.in_cone.Tie as tie
 

@@ -1,8 +1,8 @@
 -- `logarithm::reduction::negated` meets its contract.
 use borrow.Author.Needs.{needs}
 use Rattle.algebra.specs.Gauss.{negᵍ}
-use Rattle.word.specs.Fits.{back, zero-sub}
-use Rattle.point.specs.Fits.{point-fits}
+use Rattle.word.proofs.Fits.{back, zero-sub}
+use Rattle.point.proofs.Fits.{point-fits}
 use Rattle.logarithm.proofs.reduction.negated.Statement.{statement}
 use Rattle.logarithm.proofs.reduction.negated.Tie as tie
 

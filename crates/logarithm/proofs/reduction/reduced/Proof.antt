@@ -2,9 +2,9 @@
 use lib.Dec.{lit≤}
 use borrow.Author.Needs.{needs}
 use Rattle.algebra.specs.Gauss.{_*ᵍ_}
-use Rattle.algebra.specs.Parts.{floorᵍ}
-use Rattle.word.specs.Fits.{back}
-use Rattle.logarithm.specs.Fits.{ReduceFits, reduce-fits}
+use Rattle.algebra.specs.Rounding.{floorᵍ}
+use Rattle.word.proofs.Fits.{back}
+use Rattle.logarithm.proofs.Fits.{ReduceFits, reduce-fits}
 use Rattle.logarithm.proofs.reduction.reduced.Statement.{statement}
 use Rattle.logarithm.proofs.reduction.reduced.Tie as tie
 

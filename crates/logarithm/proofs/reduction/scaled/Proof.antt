@@ -2,9 +2,9 @@
 use native.Mathlib.Omega.{arith}
 use lib.Dec.{lit≤}
 use borrow.Author.Needs.{needs}
-use Rattle.word.specs.Fits.{back}
-use Rattle.word.specs.Shift.{shift-left}
-use Rattle.logarithm.specs.Fits.{scale-up, scale-down, scale-length}
+use Rattle.word.proofs.Fits.{back}
+use Rattle.word.proofs.Shift.{shift-left}
+use Rattle.logarithm.proofs.Fits.{scale-up, scale-down, scale-length}
 use Rattle.logarithm.proofs.reduction.scaled.Statement.{statement}
 use Rattle.logarithm.proofs.reduction.scaled.Tie as tie
 

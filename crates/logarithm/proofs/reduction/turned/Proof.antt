@@ -3,8 +3,9 @@ use mathlib.Core.Path.{_≡_, refl, sym, _∙_, ap}
 use mathlib.Core.Bool.{false}
 use borrow.Author.Needs.{needs}
 use Rattle.point.specs.Point.{gauss, point}
-use Rattle.logarithm.specs.Quadrant.{inCone, turn-back, turns-back, spelling, quarters-by, parts-turn-back}
-use Rattle.logarithm.specs.Fits.{turn-made}
+use Rattle.logarithm.specs.Reduction.{inCone, turn-back, turns-back, spelling}
+use Rattle.logarithm.proofs.Quadrant.{quarters-by, parts-turn-back}
+use Rattle.logarithm.proofs.Fits.{turn-made}
 use Rattle.logarithm.proofs.reduction.turned.Statement.{statement}
 use Rattle.logarithm.proofs.reduction.turned.Tie as tie
 
@@ -40,9 +41,11 @@ second : (c : tie.Else2) → inCone (turn-back (gauss (c .before .before .before
 second c = ap (λ w. inCone (gauss w)) (sym (c .before .before .turned-back .ensures)) ∙ (sym (c .before .in-cone2 .ensures) ∙ c .if2 .left)
 
 turned-back-requires-2 : tie.Need-turned-back-requires-2
-turned-back-requires-2 c κs = rw (c .before .before .turned-back .ensures) (parts-turn-back (c .before .before .before .before .before .pre))
+turned-back-requires-2 c κs = rw (c .before .before .turned-back .ensures)
+    (parts-turn-back (c .before .before .before .before .before .pre))
 
-twice : (c : tie.After-turned-back2) → c .turned-back2 .result ≡ point (turn-back (turn-back (gauss (c .before .before .before .before .before .before .args .p))))
+twice : (c : tie.After-turned-back2) → c .turned-back2 .result
+    ≡ point (turn-back (turn-back (gauss (c .before .before .before .before .before .before .args .p))))
 twice c = c .turned-back2 .ensures ∙ ap (λ w. point (turn-back (gauss w))) (c .before .before .before .turned-back .ensures)
 
 in-cone-requires-3 : tie.Need-in-cone-requires-3
@@ -71,7 +74,8 @@ returns-4 c =
     let p = a .before .before .before .before .before .args .p in
     let e = twice b in
     turn-made p (c .turned-back3 .result) 3 _
-    (quarters-by (gauss p) (first (a .before .before .before)) (second a) (ap (λ w. inCone (gauss w)) (sym e) ∙ (sym (l .before .in-cone3 .ensures) ∙ l .if3 .left)))
+    (quarters-by (gauss p) (first (a .before .before .before)) (second a) (ap (λ w. inCone (gauss w)) (sym e)
+    ∙ (sym (l .before .in-cone3 .ensures) ∙ l .if3 .left)))
     (c .turned-back3 .ensures ∙ ap (λ w. point (turn-back (gauss w))) e)
     refl
 

@@ -3,8 +3,8 @@ use mathlib.Core.Path.{_∙_, ap}
 use borrow.Author.Needs.{needs}
 use Rattle.algebra.specs.Gauss.{iᵍ, conj, _*ᵍ_}
 use Rattle.point.specs.Point.{gauss, point}
-use Rattle.logarithm.specs.Quadrant.{turn-back-is}
-use Rattle.logarithm.specs.Fits.{parts-conj, parts-i}
+use Rattle.logarithm.proofs.Quadrant.{turn-back-is}
+use Rattle.logarithm.proofs.Fits.{parts-conj, parts-i}
 use Rattle.logarithm.proofs.reduction.turned_back.Statement.{statement}
 use Rattle.logarithm.proofs.reduction.turned_back.Tie as tie
 
@@ -21,8 +21,9 @@ returns : tie.Need-returns
 returns c =
     let t = c .before in
     let s = t .before in
-    c .conjugate2 .ensures ∙ (ap (λ p. point (conj (gauss p))) (t .quarter-turn .ensures ∙ ap (λ p. point (iᵍ *ᵍ gauss p)) (s .conjugate .ensures)) ∙ ap point
-    (turn-back-is (gauss (s .before .args .p))))
+    c .conjugate2 .ensures
+    ∙ (ap (λ p. point (conj (gauss p))) (t .quarter-turn .ensures ∙ ap (λ p. point (iᵍ *ᵍ gauss p)) (s .conjugate .ensures))
+    ∙ ap point (turn-back-is (gauss (s .before .args .p))))
 
 pub turned-back-spec : {M : Type 1} → statement M
 turned-back-spec = tie.close (tie.spec conjugate-requires quarter-turn-requires conjugate-requires-2 returns)

@@ -1,8 +1,8 @@
 -- `point::Point::conjugate` meets its contract.
-use Rattle.algebra.specs.Gauss.{conj}
 use borrow.Author.Needs.{needs}
-use Rattle.word.specs.Fits.{back, zero-sub}
-use Rattle.point.specs.Fits.{point-fits}
+use Rattle.algebra.specs.Gauss.{conj}
+use Rattle.word.proofs.Fits.{back, zero-sub}
+use Rattle.point.proofs.Fits.{point-fits}
 use Rattle.point.proofs.Point.conjugate.Statement.{statement}
 use Rattle.point.proofs.Point.conjugate.Tie as tie
 

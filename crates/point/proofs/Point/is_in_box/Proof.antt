@@ -2,8 +2,8 @@
 use mathlib.Core.Path.{_≡_, sym, _∙_}
 use mathlib.Core.Bool.{true, false}
 use borrow.Author.Needs.{needs}
-use Rattle.word.specs.Fits.{back, sfits-mag}
 use Rattle.word.specs.Compare.{between}
+use Rattle.word.proofs.Fits.{back, sfits-mag}
 use Rattle.point.specs.Limits.{inBox}
 use Rattle.point.proofs.Point.is_in_box.Statement.{statement}
 use Rattle.point.proofs.Point.is_in_box.Tie as tie
@@ -23,8 +23,10 @@ returns c =
     let z = s .args .self in
     let x = sfits-mag (z .x) (a .before .before .struct-told .given .0 .1) in
     let y = sfits-mag (z .y) (a .before .struct-told2 .given .1 .0 .1) in
-    let across : between (s .args .left) (s .args .right) (z .x) ≡ true = simp (back, f .left, f .right, x) at (sym (a .is-between .ensures) ∙ c .before .if1 .taken) in
-    let up : c .is-between2 .result ≡ between (s .args .bottom) (s .args .top) (z .y) = simp (back, f .bottom, f .top, y) at (c .is-between2 .ensures) in
+    let across : between (s .args .left) (s .args .right) (z .x) ≡ true = simp (back, f .left, f .right, x) at
+    (sym (a .is-between .ensures) ∙ c .before .if1 .taken) in
+    let up : c .is-between2 .result ≡ between (s .args .bottom) (s .args .top) (z .y) = simp (back, f .bottom, f .top, y) at
+    (c .is-between2 .ensures) in
     simp (across) up
 
 returns-2 : tie.Need-returns-2
@@ -35,7 +37,8 @@ returns-2 c =
     let f = s .fits in
     let z = s .args .self in
     let x = sfits-mag (z .x) (a .before .before .struct-told .given .0 .1) in
-    let across : between (s .args .left) (s .args .right) (z .x) ≡ false = simp (back, f .left, f .right, x) at (sym (a .is-between .ensures) ∙ c .if1 .left) in
+    let across : between (s .args .left) (s .args .right) (z .x) ≡ false = simp (back, f .left, f .right, x) at
+    (sym (a .is-between .ensures) ∙ c .if1 .left) in
     simp (across, c .if1 .left)
 
 pub is-in-box-spec : {M : Type 1} → statement M

@@ -1,8 +1,8 @@
 -- `point::Point::quarter_turn` meets its contract.
-use Rattle.algebra.specs.Gauss.{i-mul}
 use borrow.Author.Needs.{needs}
-use Rattle.word.specs.Fits.{back, zero-sub}
-use Rattle.point.specs.Fits.{point-fits}
+use Rattle.algebra.proofs.Gauss.{i-mul}
+use Rattle.word.proofs.Fits.{back, zero-sub}
+use Rattle.point.proofs.Fits.{point-fits}
 use Rattle.point.proofs.Point.quarter_turn.Statement.{statement}
 use Rattle.point.proofs.Point.quarter_turn.Tie as tie
 

@@ -1,9 +1,9 @@
 -- `point::Point::step` meets its contract.
 use borrow.Author.Needs.{needs}
-use Rattle.word.specs.Fits.{back}
+use Rattle.word.proofs.Fits.{back}
 use Rattle.point.specs.Point.{gauss, gaussᵈ}
 use Rattle.point.specs.Step.{step}
-use Rattle.point.specs.Fits.{StepFits, step-fits}
+use Rattle.point.proofs.Fits.{StepFits, step-fits}
 use Rattle.point.proofs.Point.step.Statement.{statement}
 use Rattle.point.proofs.Point.step.Tie as tie
 
@@ -52,7 +52,8 @@ rounded-requires : tie.Need-rounded-requires
 rounded-requires c κs = search needs
 
 add-new-x : tie.Need-add-new-x
-add-new-x c = let f = facts (start (c .before)) in simp (back, c .rounded .ensures, f .x, f .y, f .dx, f .dy, f .dx-x, f .dy-y, f .re, f .quotient-re) (f .new-x)
+add-new-x c = let f = facts (start (c .before)) in
+    simp (back, c .rounded .ensures, f .x, f .y, f .dx, f .dy, f .dx-x, f .dy-y, f .re, f .quotient-re) (f .new-x)
 
 mul-im : tie.Need-mul-im
 mul-im c = let f = facts (start (c .before)) in search needs
@@ -67,7 +68,8 @@ rounded-requires-2 : tie.Need-rounded-requires-2
 rounded-requires-2 c κs = search needs
 
 add-new-y : tie.Need-add-new-y
-add-new-y c = let f = facts (start (c .before .before)) in simp (back, c .rounded2 .ensures, f .x, f .y, f .dx, f .dy, f .dx-y, f .dy-x, f .im, f .quotient-im) (f .new-y)
+add-new-y c = let f = facts (start (c .before .before)) in
+    simp (back, c .rounded2 .ensures, f .x, f .y, f .dx, f .dy, f .dx-y, f .dy-x, f .im, f .quotient-im) (f .new-y)
 
 pub step-spec : {M : Type 1} → statement M
 step-spec =

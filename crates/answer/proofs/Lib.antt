@@ -1,0 +1,2 @@
+-- The one law of tests in order.
+pub mod Tests

@@ -1,0 +1,79 @@
+-- The reader's ways through a part of a line: a byte more of a number, and the number as a whole.
+use mathlib.Core.Path.{_≡_}
+use mathlib.Core.Bool.{cond}
+use mathlib.Core.List.{List, [], _∷_}
+use Prim.Native.Nat.{ℕ, suc, _+_, _*_, _-_, _^_, _≤_, _<_}
+use native.Mathlib.Numerals.{add-one}
+use native.Mathlib.Omega.{arith}
+use lib.Dec.{ltb}
+use lib.ListN.{length, getD}
+use lib.Seq.{slice, slice-cons, slice-empty, length-slice}
+use borrow.Author.Tests.{lt-ltb, le-ltb, eq-eqb, ne-eqb, lt-leb}
+use Rattle.buffer.specs.declared.reading.Natural.{Natural}
+use Rattle.buffer.specs.Decimal.{value, upTo, readNatural, readNumber, plus, minus}
+use Rattle.buffer.proofs.Either.{either}
+use Rattle.buffer.specs.declared.reading.Natural.the-variants as nat
+use Rattle.buffer.specs.declared.reading.Number.the-variants as num
+
+-- ---- digit by digit
+-- a number that has grown past m stays past it
+pub big : (m acc : ℕ) (ds : List ℕ) → m < acc → upTo m (value acc ds) ≡ nat.Not
+unfolding value
+big m acc [] h = rw (lt-leb acc m h)
+big m acc (d ∷ ds) h =
+    let more = big m (acc * 10 + (d - 48)) ds (omega arith) in
+    either (ltb d 48) (λ e. rw e) (λ e. rw e (either (ltb 57 d) (λ f. rw f) (λ f. rw f more)))
+
+-- a byte more
+abbrev pub oneMore : List ℕ → ℕ → ℕ → ℕ → Natural
+oneMore s i to acc = cond (ltb (getD s i 0) 48) nat.Not
+    (cond (ltb 57 (getD s i 0)) nat.Not (value (acc * 10 + (getD s i 0 - 48)) (slice (suc i) to s)))
+
+pub value-more : (s : List ℕ) (i to acc : ℕ) → i < to → to ≤ length s → value acc (slice i to s) ≡ oneMore s i to acc
+unfolding value
+value-more s i to acc h k = rw (slice-cons i to s 0 h k)
+
+pub value-end : (s : List ℕ) (i to acc : ℕ) → i ≡ to → value acc (slice i to s) ≡ nat.Is acc
+unfolding value
+value-end s i to acc e = rw (e, slice-empty to s)
+
+-- ---- no digit, a zero in front, and the digits otherwise
+module _ (s : List ℕ) (from to : ℕ) where
+  pub read-none : from ≡ to → readNatural (slice from to s) ≡ nat.Not
+  unfolding readNatural
+  read-none e = rw (e, slice-empty to s)
+
+  pub number-none : from ≡ to → readNumber (slice from to s) ≡ num.Not
+  unfolding readNumber
+  number-none e = rw (e, slice-empty to s)
+
+  module _ (h : from < to) (k : to ≤ length s) where
+    start : slice from to s ≡ getD s from 0 ∷ slice (suc from) to s
+    start = slice-cons from to s 0 h k
+
+    left : length (slice (suc from) to s) ≡ to - suc from
+    left = length-slice (suc from) to s k
+
+    pub read-lead : getD s from 0 ≡ 48 → from + 1 < to → readNatural (slice from to s) ≡ nat.Not
+    unfolding readNatural
+    read-lead e g =
+        let p : 0 < length (slice (suc from) to s) = omega (arith, left) in
+        rw (start, eq-eqb _ _ e, lt-ltb _ _ p)
+
+    pub read-zero : getD s from 0 ≡ 48 → to ≤ from + 1 → readNatural (slice from to s) ≡ nat.Is 0
+    unfolding readNatural
+    read-zero e g =
+        let p : length (slice (suc from) to s) ≤ 0 = omega (arith, left) in
+        rw (start, eq-eqb _ _ e, le-ltb _ _ p)
+
+    pub read-digits : (getD s from 0 ≡ 48 → ⊥) → readNatural (slice from to s) ≡ upTo (2 ^ 63) (value 0 (slice from to s))
+    unfolding readNatural
+    read-digits n = rw (start, ne-eqb _ _ n)
+
+    pub number-minus : getD s from 0 ≡ 45 → readNumber (slice from to s) ≡ minus (readNatural (slice (from + 1) to s))
+    unfolding readNumber
+    number-minus e = rw (add-one, start, eq-eqb _ _ e)
+
+    pub number-plus : (getD s from 0 ≡ 45 → ⊥) → readNumber (slice from to s) ≡ plus (readNatural (slice from to s))
+    unfolding readNumber
+    number-plus n = rw (start, ne-eqb _ _ n)

@@ -1,0 +1,137 @@
+-- `buffer::reading::read_numbers` meets its contract: a field a turn, and what is read stands in front of what is still to read.
+use mathlib.Core.Path.{_≡_, refl, sym, _∙_}
+use Prim.Native.Nat.{_≤_, _-_}
+use native.Mathlib.Omega.{arith}
+use borrow.Author.Needs.{needs}
+use lib.ListN.{length, take, length-set}
+use Rattle.word.proofs.Fits.{back, sfits-mag}
+use Rattle.buffer.specs.Fields.{fieldsAt}
+use Rattle.buffer.specs.Numbers.{numbers}
+use Rattle.buffer.proofs.Find.{Ended, ended}
+use Rattle.buffer.proofs.Numbers.{behind, none-read, field-missing, not-number, number-stored, all-read, field-left}
+use Rattle.buffer.proofs.reading.read_numbers.Statement.{statement}
+use Rattle.buffer.proofs.reading.read_numbers.Tie as tie
+
+abbrev Inv-loop : tie.InvT-loop
+Inv-loop s at into₀ next₀ i₀ into next i =
+    (i ≤ length into₀) × (length into ≡ length into₀) ×
+    (behind (take i into) (numbers (length into₀ - i) (fieldsAt s next)) ≡ numbers (length into₀) (fieldsAt s at))
+
+abbrev μ-loop : tie.MeasureT-loop
+μ-loop s at into₀ next₀ i₀ into next i = length into₀ - i
+
+-- where the field ends
+field : (c : tie.After-find-byte Inv-loop μ-loop) → Ended 9 (c .before .before .before .before .before .args .s .now)
+    (c .before .before .before .loop .next) (c .find-byte .result)
+field c = ended (c .before .if1 .left) (c .find-byte .ensures)
+
+loop-holds : tie.Need-loop-holds Inv-loop μ-loop
+loop-holds c = (omega arith, refl, none-read _ _)
+
+same-length : tie.Need-same-length Inv-loop μ-loop
+same-length c = search needs
+
+returns : tie.Need-returns Inv-loop μ-loop
+returns c =
+    let l = c .before .before in
+    let s = l .before .before in
+    sym (l .loop .inv .2) ∙ field-missing _ (l .loop .i) (omega arith) (s .args .s .now) (l .loop .next) _ (c .if1 .taken)
+
+find-byte-requires : tie.Need-find-byte-requires Inv-loop μ-loop
+find-byte-requires c κs = search needs
+
+read-number-requires : tie.Need-read-number-requires Inv-loop μ-loop
+read-number-requires c κs = search needs
+
+enum-known-z : tie.Need-enum-known-z Inv-loop μ-loop
+enum-known-z c = search needs
+
+enum-told : tie.Need-enum-told Inv-loop μ-loop
+enum-told c = search needs
+
+same-length-2 : tie.Need-same-length-2 Inv-loop μ-loop
+same-length-2 c = search needs
+
+returns-2 : tie.Need-returns-2 Inv-loop μ-loop
+returns-2 c =
+    let r = c .before .before in
+    let f = r .before in
+    let l = f .before .before .before in
+    let s = l .before .before in
+    sym (l .loop .inv .2) ∙ not-number _ (l .loop .i) (omega arith) (s .args .s .now) (l .loop .next) _ (f .before .if1 .left)
+    (f .find-byte .result) (field f)
+    (sym (r .read-number .ensures) ∙ c .enum-told .given .1)
+
+mul-z : tie.Need-mul-z Inv-loop μ-loop
+mul-z c = search needs
+
+slice-set-from-z : tie.Need-slice-set-from-z Inv-loop μ-loop
+slice-set-from-z c = search needs
+
+add-next : tie.Need-add-next Inv-loop μ-loop
+add-next c = let f = c .before .before .before .before in omega (arith, field f .high)
+
+add-i : tie.Need-add-i Inv-loop μ-loop
+add-i c = search needs
+
+loop-less : tie.Need-loop-less Inv-loop μ-loop
+loop-less c = search needs
+
+loop-again : tie.Need-loop-again Inv-loop μ-loop
+loop-again c =
+    let k = c .before in
+    let r = k .before .before in
+    let f = r .before in
+    let l = f .before .before .before in
+    let s = l .before .before in
+    let z = k .z .given .0 .0 in
+    let read = sym (r .read-number .ensures) ∙ k .z .given .1 in
+    let stored = number-stored (s .args .s .now) (l .loop .into) _ (l .loop .i) (l .loop .next) _ z (omega arith) (l .loop .inv .1)
+    (f .before .if1 .left) (field f) read in
+    (omega arith, simp length-set (l .loop .inv .1), rw (back (sfits-mag z (c .known-told .given .0 .1))) (sym stored ∙ l .loop .inv .2))
+
+same-length-3 : tie.Need-same-length-3 Inv-loop μ-loop
+same-length-3 c = search needs
+
+returns-3 : tie.Need-returns-3 Inv-loop μ-loop
+returns-3 c =
+    let l = c .before .before in
+    let s = l .before .before in
+    sym (l .loop .inv .2) ∙ all-read (s .args .s .now) (l .loop .into) _ (l .loop .i) (l .loop .next) (l .loop .inv .1) (omega arith)
+    (c .if2 .taken)
+
+same-length-4 : tie.Need-same-length-4 Inv-loop μ-loop
+same-length-4 c = search needs
+
+returns-4 : tie.Need-returns-4 Inv-loop μ-loop
+returns-4 c =
+    let l = c .before .before in
+    let s = l .before .before in
+    sym (l .loop .inv .2) ∙ field-left (s .args .s .now) (l .loop .into) _ (l .loop .i) (l .loop .next) (l .loop .inv .1) (omega arith)
+    (c .if2 .left)
+
+pub read-numbers-spec : {M : Type 1} → statement M
+read-numbers-spec =
+    tie.close
+    (tie.spec
+    Inv-loop
+    μ-loop
+    loop-holds
+    same-length
+    returns
+    find-byte-requires
+    read-number-requires
+    enum-known-z
+    enum-told
+    same-length-2
+    returns-2
+    mul-z
+    slice-set-from-z
+    add-next
+    add-i
+    loop-less
+    loop-again
+    same-length-3
+    returns-3
+    same-length-4
+    returns-4)

@@ -1,0 +1,29 @@
+-- A call: six numbers of eight bytes in front, and the answer's record handed over.
+use mathlib.Core.Path.{_≡_, _∙_}
+use mathlib.Core.List.{List, _++_}
+use Prim.Native.Nat.{ℕ, _^_, _≤_, _<_}
+use lib.IntN.{ℤ}
+use lib.ListN.{length, drop}
+use lib.Signed.{mag}
+use mir.Syntax.{w64}
+use mir.Val.{toZ, ofZ}
+use Rattle.word.proofs.Fits.{back, sfits-mag}
+use Rattle.buffer.specs.Words.{encode}
+use Rattle.buffer.proofs.Words.{length-encode}
+use Rattle.buffer.proofs.Fitting.{Fitted, fitted-front}
+use Rattle.answer.specs.declared.Answer.{Answer}
+use Rattle.answer.specs.Record.{recordOf}
+use Rattle.controller.specs.Record.{handed, written}
+
+-- six numbers fill the first 48 bytes
+pub six-front : (b : List ℕ) (zs : List ℤ) {b′ : List ℕ} {end : ℕ} → length zs ≡ 6 → 48 ≤ length b → Fitted b 0 (encode zs) b′ end →
+    b′ ≡ encode zs ++ drop 48 b
+six-front b zs n h p =
+    let e = rw n at (length-encode zs) in
+    rw e at (fitted-front (rw e h) p .bytes)
+
+-- what is handed over is the answer's record, and its first number comes back as the machine holds it
+pub called : (b : List ℕ) {b′ : List ℕ} {a answer : Answer} {r : ℤ} → a ≡ answer → mag r < 2 ^ 63 →
+    (r ≡ handed b (recordOf a)) × (b′ ≡ written b (recordOf a)) → (toZ w64 (ofZ w64 r) ≡ handed b (recordOf answer))
+    × (b′ ≡ written b (recordOf answer))
+called b {r = r} e f h = let told = rw e at h in (back (sfits-mag r f) ∙ told .0, told .1)

@@ -1,0 +1,79 @@
+-- For the code, over a width F up to 48: every state of the run fits, and so does the error bound.
+use mathlib.Core.Path.{_≡_, _∙_, ap}
+use mathlib.Core.List.{[], _∷_}
+use Prim.Native.Nat.{ℕ, _+_, _-_, _^_, _≤_}
+use native.Mathlib.Omega.{arith}
+use lib.IntN.{ℤ, pos, negsuc, _+ℤ_, _-ℤ_, _*ℤ_, +ℤ-comm}
+use lib.Signed.{shrZ}
+use mir.Syntax.{w64}
+use mir.Val.{SFits}
+use Rattle.algebra.specs.Gauss.{𝔾, two}
+use Rattle.algebra.specs.Rounding.{ceiling}
+use Rattle.algebra.specs.Size.{larger, Size, Parts}
+use Rattle.algebra.proofs.Reify.{reify}
+use Rattle.algebra.proofs.Order.{nonneg-pos}
+use Rattle.algebra.proofs.Linear.{lin, _&_, _&ℕ_, none}
+use Rattle.algebra.proofs.Power.{two-mono}
+use Rattle.algebra.proofs.Larger.{larger-parts, larger-le}
+use Rattle.algebra.proofs.Parts.{parts-weaken, parts-cancel, size-add, size-neg, size-sign}
+use Rattle.word.proofs.Fits.{sfits-size}
+use Rattle.word.proofs.Shift.{CeilingFits, ceiling-fits}
+use Rattle.table_numbers.specs.Promise.{StepTable}
+use Rattle.table_numbers.proofs.Promises.{StepPromise}
+use Rattle.iteration.specs.declared.Mode.the-variants.{Exp}
+use Rattle.iteration.specs.Run.{rounding-share, state, Fits}
+use Rattle.iteration.proofs.Drift.{exact-start, exact-run, exact-size}
+use Rattle.exponential.specs.Answer.{errorBound}
+use Rattle.exponential.proofs.Convergence.{Rectangle, below-parts, converges}
+
+-- ---- the run: a start of parts up to 2^58 grows to 1089/280 of it, and the rounding; the exponent stays below one
+module _ (F : ℕ) (wide : 16 ≤ F) (narrow : F ≤ 48) (t : StepTable) (promise : StepPromise F (F - 8) t) where
+  pub run-fits : (n : ℕ) (e s : 𝔾) → n ≤ F - 8 → Rectangle F e → Parts s (two (F + 10)) → Fits F t Exp 0 n (state s e)
+  run-fits n e s h rect given = record {
+    least = omega arith;
+    most = omega arith;
+    small = λ j l. record {
+      point = parts-cancel (pos 280) (record { le = tt })
+          (parts-weaken (exact-size (exact-run F t Exp 0 j j (state s e) (omega arith) exact-start) given)
+          (lin (pos j ∷ two (F + 10) ∷ []) (few j l &ℕ two-mono (F + 10) 58 (omega arith) & none) (search reify depth 20) tt));
+      sum = parts-weaken (below-parts (converges F (F - 8) wide (omega arith) t promise (state s e) rect j (omega arith)))
+          (two-mono (F - j) 61 (omega arith));
+    };
+  }
+    where
+      few : (j : ℕ) → j ≤ n - 0 → j ≤ 40
+      few j l = omega arith
+
+-- ---- the error bound, M being m
+pub record BoundFits (n : ℕ) (m : ℤ) : Type 0 where
+  pub up : CeilingFits (negsuc 7) m (pos 8 *ℤ two 58) n
+  pub share : SFits w64 (rounding-share *ℤ pos n)
+  pub bound : SFits w64 (rounding-share *ℤ pos n -ℤ shrZ (negsuc 7 *ℤ m) (2 ^ n))
+
+pub bound-fits : (F n : ℕ) {s : 𝔾} → F ≤ 48 → n ≤ F - 8 → Parts s (two (F + 10)) → BoundFits n (larger s)
+bound-fits F n {s} narrow h given = record {
+  up = up;
+  share = sfits-size share tt;
+  bound = sfits-size (size-add share (size-neg (up .size))) tt;
+}
+  where
+    up : CeilingFits (negsuc 7) (larger s) (pos 8 *ℤ two 58) n
+    up = ceiling-fits {c = negsuc 7} {a = pos 8} {b = two 58} n (record { lo = record { le = tt }; hi = record { le = tt } })
+        (record {
+          lo = lin (larger s ∷ []) (size-sign (larger-parts s .re) & none) (search reify depth 20) tt;
+          hi = larger-le (parts-weaken given (two-mono (F + 10) 58 (omega arith)));
+        }) tt tt
+
+    few : n ≤ 40
+    few = omega arith
+
+    share : Size (rounding-share *ℤ pos n) (pos 120)
+    share = record {
+      lo = lin (pos n ∷ []) (nonneg-pos n & none) (search reify depth 20) tt;
+      hi = lin (pos n ∷ []) (few &ℕ none) (search reify depth 20) tt;
+    }
+
+pub bound-is : (n : ℕ) (s : 𝔾) → BoundFits n (larger s) → rounding-share *ℤ pos n -ℤ shrZ (negsuc 7 *ℤ larger s) (2 ^ n) ≡ errorBound n s
+unfolding errorBound
+bound-is n s f = ap (λ u. rounding-share *ℤ pos n +ℤ u) (f .up .made)
+    ∙ +ℤ-comm (rounding-share *ℤ pos n) (ceiling (pos 8 *ℤ larger s) (2 ^ n))

@@ -1,0 +1,104 @@
+-- For the code, over a width F up to 48: nothing that its parts make overflows.
+use mathlib.Core.Path.{_≡_, sym, _∙_, ap, subst}
+use mathlib.Core.List.{[], _∷_}
+use Prim.Native.Nat.{ℕ, suc, _+_, _-_, _^_, _≤_}
+use native.Mathlib.Omega.{arith}
+use lib.IntN.{ℤ, pos, negsuc, _-ℤ_, _*ℤ_}
+use lib.Signed.{shrZ}
+use mir.Syntax.{w64}
+use mir.Val.{SFits, toZ, ofZ}
+use Rattle.algebra.specs.Gauss.{𝔾, negᵍ, _+ᵍ_, two}
+use Rattle.algebra.specs.Order.{_⩽_}
+use Rattle.algebra.specs.Size.{Size, Parts}
+use Rattle.algebra.proofs.Integer.{ℤR}
+use Rattle.algebra.proofs.Reify.{ring!, reify}
+use Rattle.algebra.proofs.Linear.{lin, _&_, none}
+use Rattle.algebra.proofs.Power.{two≥1, two-mono}
+use Rattle.algebra.proofs.Parts.{size-add, size-neg, size-mul}
+use Rattle.word.proofs.Fits.{zero-sub, sfits-size, sfits-neg}
+use Rattle.word.proofs.Shift.{shift-constant-word}
+use Rattle.iteration.specs.Select.{low-x, high-x, low-y, high-y, half}
+use Rattle.iteration.specs.Code.{LessPre}
+
+-- ---- the thresholds of step n are those of one, shifted
+module _ (F n : ℕ) (narrow : F ≤ 48) (h : n + 8 ≤ F) where
+  threshold : (c : ℤ) (m : ℕ) → n ≤ m → m ≤ F → Size c (pos 13) → toZ w64 (ofZ w64 (shrZ (c *ℤ two m) (2 ^ n))) ≡ c *ℤ two (m - n)
+  threshold c m l g s = shift-constant-word c m n l (sfits-size (size-mul s (record {
+    lo = lin (two m ∷ two 48 ∷ []) (two-mono m 48 (omega arith) & two≥1 m & none) (search reify depth 20) tt;
+    hi = two-mono m 48 (omega arith);
+  })) tt)
+
+  pub low-x-word : toZ w64 (ofZ w64 (shrZ (negsuc 0 *ℤ two (F - 1)) (2 ^ n))) ≡ low-x F n
+  low-x-word = threshold (negsuc 0) (F - 1) (omega arith) (omega arith) (record { lo = record { le = tt }; hi = record { le = tt } })
+      ∙ ring! ℤR (two (F - 1 - n) ∷ []) (search reify depth 20) tt
+
+  pub high-x-word : toZ w64 (ofZ w64 (shrZ (pos 3 *ℤ two (F - 3)) (2 ^ n))) ≡ high-x F n
+  high-x-word = threshold (pos 3) (F - 3) (omega arith) (omega arith) (record { lo = record { le = tt }; hi = record { le = tt } })
+
+  pub low-y-word : toZ w64 (ofZ w64 (shrZ (negsuc 2 *ℤ two (F - 2)) (2 ^ n))) ≡ low-y F n
+  low-y-word = threshold (negsuc 2) (F - 2) (omega arith) (omega arith) (record { lo = record { le = tt }; hi = record { le = tt } })
+      ∙ ring! ℤR (two (F - 2 - n) ∷ []) (search reify depth 20) tt
+
+  pub high-y-word : toZ w64 (ofZ w64 (shrZ (pos 13 *ℤ two (F - 4)) (2 ^ n))) ≡ high-y F n
+  high-y-word = threshold (pos 13) (F - 4) (omega arith) (omega arith) (record { lo = record { le = tt }; hi = record { le = tt } })
+
+  pub half-word : toZ w64 (ofZ w64 (shrZ (pos 1 *ℤ two (F - 1)) (2 ^ n))) ≡ half F n
+  half-word = threshold (pos 1) (F - 1) (omega arith) (omega arith) (record { lo = record { le = tt }; hi = record { le = tt } })
+      ∙ ring! ℤR (two (F - 1 - n) ∷ []) (search reify depth 20) tt ∙ ap two same
+    where
+      same : F - 1 - n ≡ F - suc n
+      same = omega arith
+
+pub minus-fits : (t : ℤ) → pos 1 ⩽ t → SFits w64 t → SFits w64 (pos 0 -ℤ t)
+minus-fits (pos n) h f = subst (SFits w64) (sym (zero-sub (pos n))) (sfits-neg n (omega (arith, f .sfits)))
+minus-fits (negsuc n) h f = absurd (h .le)
+
+-- ---- a point less one
+pub record ResidualFits (F : ℕ) (z : 𝔾) : Type 0 where
+  pub x : SFits w64 (z .re)
+  pub y : SFits w64 (z .im)
+  pub less-x : SFits w64 (z .re -ℤ two F)
+  pub less-y : SFits w64 (z .im -ℤ pos 0)
+
+pub residual-fits : (F : ℕ) {z : 𝔾} → F ≤ 48 → Parts z (two 61) → ResidualFits F z
+residual-fits F {z} narrow h = record {
+  x = sfits-size (h .re) tt;
+  y = sfits-size (h .im) tt;
+  less-x = sfits-size (size-add (h .re) (size-neg one)) tt;
+  less-y = sfits-size (size-add (h .im) (size-neg nothing)) tt;
+}
+  where
+    nothing : Size (pos 0) (pos 0)
+    nothing = record { lo = record { le = tt }; hi = record { le = tt } }
+
+    one : Size (two F) (two 48)
+    one = record {
+      lo = lin (two F ∷ two 48 ∷ []) (two-mono F 48 narrow & two≥1 F & none) (search reify depth 20) tt;
+      hi = two-mono F 48 narrow;
+    }
+
+-- ---- a sum less an entry
+pub record LessFits (e z : 𝔾) : Type 0 where
+  pub x : SFits w64 (e .re)
+  pub y : SFits w64 (e .im)
+  pub re : SFits w64 (z .re)
+  pub im : SFits w64 (z .im)
+  pub new-x : SFits w64 (e .re -ℤ z .re)
+  pub new-y : SFits w64 (e .im -ℤ z .im)
+
+pub less-fits : {e z : 𝔾} → LessPre e z → LessFits e z
+unfolding _+ᵍ_ negᵍ
+less-fits {e} {z} h = record {
+  x = sfits-size (h .sum .re) tt;
+  y = sfits-size (h .sum .im) tt;
+  re = sfits-size (taken (h .sum .re) (h .left .re)) tt;
+  im = sfits-size (taken (h .sum .im) (h .left .im)) tt;
+  new-x = sfits-size (h .left .re) tt;
+  new-y = sfits-size (h .left .im) tt;
+}
+  where
+    taken : {x y : ℤ} → Size x (two 61) → Size (x -ℤ y) (two 61) → Size y (two 61 *ℤ pos 2)
+    taken {x} {y} a b = record {
+      lo = lin (x ∷ y ∷ []) (a .lo & b .hi & none) (search reify depth 20) tt;
+      hi = lin (x ∷ y ∷ []) (a .hi & b .lo & none) (search reify depth 20) tt;
+    }

@@ -1,0 +1,2 @@
+-- The array's matrices and their rows.
+pub mod Matrices

@@ -1,0 +1,50 @@
+-- A line that is read has a serial in its range.
+use mathlib.Core.Path.{_≡_}
+use mathlib.Core.Bool.{true}
+use mathlib.Core.List.{List, [], _∷_}
+use Prim.Native.Nat.{ℕ}
+use lib.IntN.{ℤ}
+use Rattle.buffer.specs.declared.reading.Number.{Number}
+use Rattle.buffer.specs.Decimal.{readNumber}
+use Rattle.buffer.specs.Fields.{fields, sameBytes}
+use Rattle.buffer.specs.Numbers.{Numbers, are, none, numbers}
+use Rattle.buffer.proofs.Either.{either}
+use Rattle.text.specs.declared.Line.{Line}
+use Rattle.text.specs.Line.{isSerial, EXP, LOG, formed, expOf, logOf, kindLine, serialLine, lineOf, readLine}
+use Rattle.buffer.specs.declared.reading.Number.the-variants as num
+use Rattle.text.specs.declared.Line.the-variants as line
+
+abbrev pub IsSerial : ℤ → Type 0
+IsSerial z = isSerial z ≡ true
+
+abbrev pub SerialOf : Line → Type 0
+SerialOf line.Malformed = Unit {0}
+SerialOf (line.Exp serial n exponent start) = IsSerial serial
+SerialOf (line.Log serial n point) = IsSerial serial
+
+kind-serial : (serial : ℤ) (fs : List (List ℕ)) → IsSerial serial → SerialOf (kindLine serial fs)
+unfolding kindLine
+kind-serial serial [] h = tt
+kind-serial serial (f ∷ fs) h =
+    either (sameBytes f EXP) (λ e. rw e (exp (numbers 5 fs)))
+    (λ e. rw e (either (sameBytes f LOG) (λ g. rw g (log (numbers 3 fs))) (λ g. rw g tt)))
+  where
+    exp : (r : Numbers) → SerialOf (formed r (expOf serial))
+    exp (are zs) = h
+    exp none = tt
+
+    log : (r : Numbers) → SerialOf (formed r (logOf serial))
+    log (are zs) = h
+    log none = tt
+
+pub line-serial : (l : List ℕ) → SerialOf (readLine l)
+unfolding readLine lineOf
+line-serial l = go (fields l)
+  where
+    number : (r : Number) (fs : List (List ℕ)) → SerialOf (serialLine r fs)
+    number num.Not fs = tt
+    number (num.Is z) fs = either (isSerial z) (λ e. rw e (kind-serial z fs e)) (λ e. rw e tt)
+
+    go : (fs : List (List ℕ)) → SerialOf (lineOf fs)
+    go [] = tt
+    go (f ∷ fs) = number (readNumber f) fs
