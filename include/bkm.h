@@ -1,10 +1,11 @@
-/* EXP and LOG of points in units of 1/2^48: the C face of the library.
+/* EXP and LOG of points in units of 1/2^48, and the lines of a sheet: the C face of the
+ * library.
  *
  * Link target/staticlib/libcontroller.a, which `rt staticlib controller` writes.
  *
  * A point is a pair of signed 64-bit numbers of units, so one is 281474976710656.
- * Each call writes a record of 48 bytes to out: six signed 8-byte numbers, two's
- * complement, low byte first.
+ * bkm_exp and bkm_log write a record of 48 bytes to out: six signed 8-byte numbers,
+ * two's complement, low byte first.
  *
  *     bytes  0 to  7   the refusal number, or 0
  *            8 to 15   the first part of the answer, in units
@@ -58,6 +59,19 @@ int64_t bkm_exp(int64_t n, int64_t ex, int64_t ey, int64_t sx, int64_t sy, uint8
  * of the sizes of x and y.
  */
 int64_t bkm_log(int64_t n, int64_t x, int64_t y, uint8_t *out, size_t out_len);
+
+/* The answer to a line of a sheet, given without its newline, as the program bkm answers
+ * it: its bytes, a newline at the end, from the front of out. Returns how many there are,
+ * at most 128, or 0 where out_len is under 128 and nothing is written. Bytes past the
+ * answer keep their values. A refused line is answered with its number in the text.
+ */
+size_t bkm_line(const uint8_t *line, size_t line_len, uint8_t *out, size_t out_len);
+
+/* The table that the steps use: in units, the logarithm of 1 + (dx + i*dy)/2^n for n from
+ * 1 to 40 and dx, dy from -1 to 1, its real part for part 0 and its imaginary part for any
+ * other. 0 for everything outside.
+ */
+int64_t bkm_step_entry(size_t n, int64_t dx, int64_t dy, size_t part);
 
 #ifdef __cplusplus
 }

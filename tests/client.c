@@ -73,6 +73,16 @@ int main(void)
     check("and so is no buffer at all", bkm_exp(40, 0, 0, one, 0, out, 0) == 6);
     check("and nothing is written", all(out, sizeof out, 0x5a));
 
+    const char *line = "1\tEXP\t40\t0\t0\t281474976710656\t0", *answer = "1\tEXP\t40\t281474976710656\t0\t2168\n";
+    uint8_t text[130];
+    memset(text, 0xa5, sizeof text);
+    size_t length = bkm_line((const uint8_t *)line, strlen(line), text, sizeof text);
+    check("a line has its answer", length == strlen(answer) && memcmp(text, answer, length) == 0);
+    check("and the bytes behind it stay", all(text + length, sizeof text - length, 0xa5));
+    check("an empty line is malformed", bkm_line((const uint8_t *)line, 0, text, sizeof text) == 8 && memcmp(text, "0\tREF\t5\n", 8) == 0);
+    check("127 bytes are too few for a line", bkm_line((const uint8_t *)line, strlen(line), text, 127) == 0);
+    check("the entry of n = 1, d = -1", bkm_step_entry(1, -1, 0, 0) == -INT64_C(195103586505167) && bkm_step_entry(1, -1, 0, 1) == 0);
+
     printf("%d passed, %d failed\n", passed, failed);
     return failed != 0;
 }

@@ -1,16 +1,17 @@
-//! The pictures of docs/, made from calls of the product's library:
+//! The pictures of docs/, made from calls of the product's library, there or in another folder:
 //!
-//!     cargo run --release --offline --manifest-path bench/Cargo.toml -p pictures
+//!     cargo run --release --offline --manifest-path bench/Cargo.toml -p pictures [FOLDER]
 
 mod calls;
 mod error;
 mod kernel;
 mod svg;
 
-use std::{fs, io, path::Path};
+use std::{env, fs, io, path::PathBuf};
 
 fn main() -> io::Result<()> {
-    let docs = Path::new(env!("CARGO_MANIFEST_DIR")).join("../../docs");
-    fs::write(docs.join("error.svg"), error::picture())?;
-    fs::write(docs.join("kernel.svg"), kernel::picture())
+    let docs = concat!(env!("CARGO_MANIFEST_DIR"), "/../../docs");
+    let folder = env::args_os().nth(1).map_or_else(|| docs.into(), PathBuf::from);
+    fs::write(folder.join("error.svg"), error::picture())?;
+    fs::write(folder.join("kernel.svg"), kernel::picture())
 }

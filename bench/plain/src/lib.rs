@@ -1,6 +1,7 @@
-//! EXP, LOG and sheets of paper 01 as one would write them in Rust with nothing proved: the
-//! measure for the product. 64-bit arithmetic, static tables, the same answers bit for bit.
+//! EXP, LOG and sheets of paper 01 as one would write them in Rust and in C with nothing proved:
+//! the measure for the product. 64-bit arithmetic, static tables, the same answers bit for bit.
 
+pub mod c;
 pub mod engines;
 pub mod sheet;
 

@@ -1,10 +1,14 @@
-//! The plain version against the second implementation of the tests.
+//! The plain versions against the second implementation of the tests.
 
-use plain::{engines, sheet};
+use plain::{c, engines, sheet};
 use reference::answer::write_record;
+use reference::damage::{every_damage, longest_line};
 use reference::samples::{exp_input, line, log_input, Random};
 use reference::width::WIDTH_48 as W;
 use reference::{exponential, logarithm};
+use std::io::Write;
+use std::process::{Command, Stdio};
+use std::thread;
 
 const SAMPLES: usize = 200_000;
 
@@ -22,6 +26,10 @@ fn exp() {
         let ours = outcome(|out| engines::exp_record(i.n, i.ex, i.ey, i.sx, i.sy, out));
         let theirs = outcome(|out| write_record(exponential::exp(i, W), out));
         assert_eq!(ours, theirs, "{i:?}");
+        if let Some(c) = c::VERSION {
+            let c = outcome(|out| (c.exp_record)(i.n, i.ex, i.ey, i.sx, i.sy, out));
+            assert_eq!(c, theirs, "{i:?}");
+        }
     }
 }
 
@@ -33,6 +41,10 @@ fn log() {
         let ours = outcome(|out| engines::log_record(i.n, i.x, i.y, out));
         let theirs = outcome(|out| write_record(logarithm::log(i, W), out));
         assert_eq!(ours, theirs, "{i:?}");
+        if let Some(c) = c::VERSION {
+            let c = outcome(|out| (c.log_record)(i.n, i.x, i.y, out));
+            assert_eq!(c, theirs, "{i:?}");
+        }
     }
 }
 
@@ -53,5 +65,30 @@ fn ends_of_lines() {
         let mut ours = Vec::new();
         sheet::answer_sheet(input.as_bytes(), &mut ours).unwrap();
         assert_eq!(ours, reference::sheet::answer_sheet(input.as_bytes(), W), "{input:?}");
+    }
+}
+
+/// What the C program writes.
+fn answered_by_c(program: &str, sheet: &[u8]) -> Vec<u8> {
+    let mut child =
+        Command::new(program).stdin(Stdio::piped()).stdout(Stdio::piped()).spawn().unwrap();
+    let mut stdin = child.stdin.take().unwrap();
+    thread::scope(|scope| {
+        scope.spawn(move || stdin.write_all(sheet).unwrap());
+        child.wait_with_output().unwrap().stdout
+    })
+}
+
+#[test]
+fn sheets_in_c() {
+    let Some(c) = c::VERSION else { return };
+    let mut random = Random::new(14);
+    let lines: Vec<_> = (0..SAMPLES / 4).map(|_| line(&mut random, W)).collect();
+    let mut sheets = vec![vec![], b"\n".to_vec(), vec![b'7'; 200_000], lines.join(&b'\n')];
+    sheets.push([&sheets[3][..], b"\n"].concat());
+    sheets.push(every_damage(&longest_line()).join(&b'\n'));
+    for sheet in sheets {
+        let seen = answered_by_c(c.program, &sheet);
+        assert!(seen == reference::sheet::answer_sheet(&sheet, W));
     }
 }

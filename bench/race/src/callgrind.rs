@@ -1,5 +1,6 @@
 //! Instructions as valgrind counts them: the figure that a busy machine cannot move.
 
+use crate::effort::Effort;
 use std::process::Command;
 
 /// Runs what `add_program` puts behind valgrind; none where there is no valgrind.
@@ -16,10 +17,14 @@ fn instructions(add_program: impl Fn(&mut Command)) -> Option<u64> {
 /// From two runs that differ by some counts of `items` items each, which leaves out how a
 /// program begins.
 pub fn instructions_per_item(
+    effort: &Effort,
     counts: [usize; 2],
     items: usize,
     add_program: impl Fn(&mut Command, usize),
 ) -> String {
+    if !effort.counts {
+        return "not counted".to_string();
+    }
     match counts.map(|count| instructions(|command| add_program(command, count))) {
         [Some(few), Some(many)] => {
             let items = (counts[1] - counts[0]) * items;

@@ -1,4 +1,4 @@
-//! Who runs: the product, the plain version, and the libraries of other.c.
+//! Who runs: the product, the plain versions, and the libraries of other.c.
 
 use crate::operation::Operation;
 use reference::exponential::Input as Exp;
@@ -47,6 +47,15 @@ pub fn contenders<Input: Operation>() -> Vec<Contender<Input>> {
             batch: |inputs| fill_records(inputs, Input::plain),
             answer: |input| from_record(input, Input::plain),
         });
+        if plain::c::VERSION.is_some() {
+            all.push(Contender {
+                name: format!("plain C, N = {n}"),
+                steps: Some(n),
+                bound: "the same figure, unproved",
+                batch: |inputs| fill_records(inputs, Input::plain_c),
+                answer: |input| from_record(input, Input::plain_c),
+            });
+        }
     }
     all.extend(Input::others());
     all
@@ -157,6 +166,9 @@ pub fn other_logarithms() -> Vec<Contender<Log>> {
 /// What is missing here, and the package that would bring it.
 pub fn missing() -> Vec<&'static str> {
     let mut missing = Vec::new();
+    if plain::c::VERSION.is_none() {
+        missing.push("plain C (the clang that comes with rt, or the one that BKM_CLANG names)");
+    }
     if !cfg!(mpc) {
         missing.push("GNU MPC (libmpc-dev)");
     }

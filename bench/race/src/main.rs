@@ -1,14 +1,17 @@
-//! The race: prints the tables of `bench/run` as markdown. `race calls EXP|LOG PLACE COUNT`
-//! runs COUNT small batches of one contender and nothing else, for counting instructions.
+//! The race: prints the tables of `bench/run` as markdown. `race quick` prints the same from a
+//! few rounds, without instructions. `race calls EXP|LOG PLACE COUNT` runs COUNT small batches of
+//! one contender and nothing else, for counting instructions.
 
 mod callgrind;
 mod contenders;
+mod effort;
 mod operation;
 mod sheets;
 mod table;
 
 use callgrind::instructions_per_item;
 use contenders::{contenders, missing, Contender, STEPS};
+use effort::{Effort, FULL, QUICK};
 use operation::Operation;
 use reference::exponential::Input as Exp;
 use reference::logarithm::Input as Log;
@@ -17,38 +20,39 @@ use std::env;
 use std::time::Instant;
 use table::{figure, least, median, print_table};
 
-/// Inputs on which the product and the plain version must agree, byte for byte.
-const COMPARED: usize = 1_000_000;
-/// Calls in a batch, and batches of each contender; the contenders take turns.
-const BATCH: usize = 2_000;
-const ROUNDS: usize = 101;
 /// Calls in a batch whose instructions are counted.
 const SMALL_BATCH: usize = 500;
-/// Calls whose error is taken.
-const JUDGED: usize = 10_000;
 
 fn main() {
     let arguments: Vec<String> = env::args().skip(1).collect();
     match arguments.iter().map(String::as_str).collect::<Vec<_>>()[..] {
         ["calls", "EXP", place, count] => calls::<Exp>(place, count),
         ["calls", "LOG", place, count] => calls::<Log>(place, count),
-        _ => {
-            println!(
-                "Before the race the product and the plain version gave the same bytes on \
-                 {COMPARED} inputs of each call, edges and refusals among them. Times are of \
-                 {ROUNDS} rounds of {BATCH} calls, the contenders taking turns; a ratio is the \
-                 median of the rounds' ratios. Errors are the worst of {JUDGED} calls with \
-                 parts up to one, measured as demand 3 of paper 01 compares: for LOG, how far \
-                 the exponential of the answer is from the point. A unit is 2^-48."
-            );
-            race::<Exp>();
-            race::<Log>();
-            for name in missing() {
-                println!("\nNot installed, so not in the race: {name}.");
-            }
-            sheets::race();
-        }
+        [] => race_all(&FULL),
+        ["quick"] => race_all(&QUICK),
+        _ => panic!("race [quick], or race calls EXP|LOG PLACE COUNT"),
     }
+}
+
+fn race_all(effort: &Effort) {
+    let Effort { compared, batch, rounds, judged, .. } = effort;
+    println!(
+        "Before the race the product and the plain versions gave the same bytes on {compared} \
+         inputs of each call, edges and refusals among them. Times are of {rounds} rounds of \
+         {batch} calls, the contenders taking turns; a ratio is the median of the rounds' ratios. \
+         Errors are the worst of {judged} calls with parts up to one, measured as demand 3 of \
+         paper 01 compares: for LOG, how far the exponential of the answer is from the point. A \
+         unit is 2^-48."
+    );
+    if let Some(c) = plain::c::VERSION {
+        println!("\nPlain C is compiled by {}, as the product is.", c.compiler);
+    }
+    race::<Exp>(effort);
+    race::<Log>(effort);
+    for name in missing() {
+        println!("\nNot installed, so not in the race: {name}.");
+    }
+    sheets::race(effort);
 }
 
 fn inputs<Input: Operation>(contender: &Contender<Input>, count: usize) -> Vec<Input> {
@@ -65,20 +69,26 @@ fn calls<Input: Operation>(place: &str, count: &str) {
     }
 }
 
-fn compare_versions<Input: Operation>() {
+fn compare_versions<Input: Operation>(effort: &Effort) {
+    let outcome = |input: Input, call: fn(Input, &mut [u8]) -> i64| {
+        let mut out = [0; 48];
+        (call(input, &mut out), out)
+    };
     let mut random = Random::new(32);
-    for _ in 0..COMPARED {
+    for _ in 0..effort.compared {
         let input = Input::any(&mut random);
-        let (mut product, mut plain) = ([0; 48], [0; 48]);
-        let handed = (input.product(&mut product), input.plain(&mut plain));
-        assert!(handed.0 == handed.1 && product == plain, "{input:?}: {product:?} {plain:?}");
+        let product = outcome(input, Input::product);
+        assert_eq!(product, outcome(input, Input::plain), "plain Rust: {input:?}");
+        if plain::c::VERSION.is_some() {
+            assert_eq!(product, outcome(input, Input::plain_c), "plain C: {input:?}");
+        }
     }
 }
 
 /// The worst error and the largest bound that came with an answer, in units.
-fn judge<Input: Operation>(contender: &Contender<Input>) -> (f64, Option<f64>) {
+fn judge<Input: Operation>(contender: &Contender<Input>, effort: &Effort) -> (f64, Option<f64>) {
     let (mut worst, mut largest) = (0f64, None);
-    for input in inputs(contender, JUDGED) {
+    for input in inputs(contender, effort.judged) {
         let answer = (contender.answer)(input);
         let error = input.error(&answer).to_f64();
         // A column is a promise; the other bounds are not ours to check.
@@ -91,26 +101,26 @@ fn judge<Input: Operation>(contender: &Contender<Input>) -> (f64, Option<f64>) {
 }
 
 /// Nanoseconds per call, by contender and round.
-fn times<Input: Operation>(all: &[Contender<Input>]) -> Vec<Vec<f64>> {
-    let batches: Vec<_> = all.iter().map(|contender| inputs(contender, BATCH)).collect();
+fn times<Input: Operation>(all: &[Contender<Input>], effort: &Effort) -> Vec<Vec<f64>> {
+    let batches: Vec<_> = all.iter().map(|contender| inputs(contender, effort.batch)).collect();
     let mut times = vec![Vec::new(); all.len()];
-    for round in 0..=ROUNDS {
+    for round in 0..=effort.rounds {
         for (place, contender) in all.iter().enumerate() {
             let begin = Instant::now();
             (contender.batch)(&batches[place]);
             // The first round only warms up.
             if round > 0 {
-                times[place].push(begin.elapsed().as_nanos() as f64 / BATCH as f64);
+                times[place].push(begin.elapsed().as_nanos() as f64 / effort.batch as f64);
             }
         }
     }
     times
 }
 
-fn race<Input: Operation>() {
-    compare_versions::<Input>();
+fn race<Input: Operation>(effort: &Effort) {
+    compare_versions::<Input>(effort);
     let all = contenders::<Input>();
-    let times = times(&all);
+    let times = times(&all, effort);
     let ratio = |place: usize, n: i64| {
         // The product is the first with this N; other N do other work.
         let product = all.iter().position(|c| c.steps == Some(n)).expect("the product");
@@ -120,8 +130,8 @@ fn race<Input: Operation>() {
         format!("{:.2}", median(times[place].iter().zip(&times[product]).map(|(a, b)| a / b)))
     };
     let rows = all.iter().enumerate().map(|(place, contender)| {
-        let (worst, largest) = judge(contender);
-        let instructions = instructions_per_item([1, 3], SMALL_BATCH, |command, count| {
+        let (worst, largest) = judge(contender, effort);
+        let instructions = instructions_per_item(effort, [1, 3], SMALL_BATCH, |command, count| {
             command.arg(env::current_exe().expect("this program"));
             command.args(["calls", Input::NAME, &place.to_string(), &count.to_string()]);
         });

@@ -1,4 +1,4 @@
-//! EXP and LOG as the race sees them: their inputs, their two versions, their exact error.
+//! EXP and LOG as the race sees them: their inputs, their versions, their exact error.
 
 use crate::contenders::{other_exponentials, other_logarithms, Answer, Contender};
 use reference::exponential::{rectangle, Input as Exp};
@@ -22,6 +22,8 @@ pub trait Operation: Copy + std::fmt::Debug {
     fn any(random: &mut Random) -> Self;
     fn product(self, out: &mut [u8]) -> i64;
     fn plain(self, out: &mut [u8]) -> i64;
+    /// The plain version in C, where there is one.
+    fn plain_c(self, out: &mut [u8]) -> i64;
     fn others() -> Vec<Contender<Self>>;
     /// The larger part of what demand 3 of 01 compares, in units.
     fn error(self, answer: &Answer) -> Fixed;
@@ -29,6 +31,10 @@ pub trait Operation: Copy + std::fmt::Debug {
 
 fn up_to_one(random: &mut Random) -> i64 {
     random.between(-WIDTH_48.one(), WIDTH_48.one()) as i64
+}
+
+fn plain_c() -> plain::c::Version {
+    plain::c::VERSION.expect("the plain version in C")
 }
 
 fn whole(p: Point) -> Complex {
@@ -55,6 +61,10 @@ impl Operation for Exp {
 
     fn plain(self, out: &mut [u8]) -> i64 {
         plain::engines::exp_record(self.n, self.ex, self.ey, self.sx, self.sy, out)
+    }
+
+    fn plain_c(self, out: &mut [u8]) -> i64 {
+        (plain_c().exp_record)(self.n, self.ex, self.ey, self.sx, self.sy, out)
     }
 
     fn others() -> Vec<Contender<Exp>> {
@@ -87,6 +97,10 @@ impl Operation for Log {
 
     fn plain(self, out: &mut [u8]) -> i64 {
         plain::engines::log_record(self.n, self.x, self.y, out)
+    }
+
+    fn plain_c(self, out: &mut [u8]) -> i64 {
+        (plain_c().log_record)(self.n, self.x, self.y, out)
     }
 
     fn others() -> Vec<Contender<Log>> {

@@ -1,6 +1,7 @@
-//! Sheets: the product's program beside the plain one.
+//! Sheets: the product's program beside the plain ones.
 
 use crate::callgrind::instructions_per_item;
+use crate::effort::Effort;
 use crate::operation::Operation;
 use crate::table::{median, print_table};
 use reference::exponential::Input as Exp;
@@ -12,9 +13,6 @@ use std::fs::{self, File};
 use std::path::{Path, PathBuf};
 use std::process::{self, Command, Stdio};
 use std::time::Instant;
-
-const LINES: usize = 1_000_000;
-const ROUNDS: usize = 9;
 
 /// Lines as a sender writes them, with N from 20 to 40; one in 50 is refused and one in 50
 /// malformed.
@@ -34,14 +32,8 @@ fn sheet(lines: usize) -> Vec<u8> {
     text
 }
 
-/// BKM_PROGRAM, or the one of the repository.
-fn product() -> PathBuf {
-    let built = concat!(env!("CARGO_MANIFEST_DIR"), "/../../target/bin/bkm");
-    env::var_os("BKM_PROGRAM").map_or_else(|| built.into(), PathBuf::from)
-}
-
-/// Built beside this program.
-fn plain() -> PathBuf {
+/// The plain version in Rust, built beside this program.
+fn plain_rust() -> PathBuf {
     env::current_exe().expect("this program").with_file_name("plain")
 }
 
@@ -67,11 +59,11 @@ impl Drop for SheetFile {
 }
 
 /// Lines per second, standard output thrown away.
-fn speed(program: &Path, sheet: &SheetFile) -> f64 {
+fn speed(program: &Path, sheet: &SheetFile, lines: usize) -> f64 {
     let begin = Instant::now();
     let status = Command::new(program).stdin(sheet.open()).stdout(Stdio::null()).status();
     assert!(status.expect("a program that runs").success());
-    LINES as f64 / begin.elapsed().as_secs_f64()
+    lines as f64 / begin.elapsed().as_secs_f64()
 }
 
 fn answers(program: &Path, sheet: &SheetFile) -> Vec<u8> {
@@ -80,27 +72,30 @@ fn answers(program: &Path, sheet: &SheetFile) -> Vec<u8> {
     output.stdout
 }
 
-pub fn race() {
-    let product = product();
+pub fn race(effort: &Effort) {
+    let product = compare::program::path();
     if !product.exists() {
         println!("\nNo program at {}: no sheets were run.", product.display());
         return;
     }
-    let programs = [("bkm", product), ("plain Rust", plain())];
-    let sheet = SheetFile::new(LINES);
-    let same = answers(&programs[0].1, &sheet) == answers(&programs[1].1, &sheet);
-    assert!(same, "the two programs answer differently");
-    let mut speeds = [Vec::new(), Vec::new()];
-    for _ in 0..ROUNDS {
+    let mut programs = vec![("bkm", product), ("plain Rust", plain_rust())];
+    programs.extend(plain::c::VERSION.map(|c| ("plain C", c.program.into())));
+    let sheet = SheetFile::new(effort.lines);
+    let wanted = answers(&programs[0].1, &sheet);
+    for (name, program) in &programs[1..] {
+        assert!(answers(program, &sheet) == wanted, "{name} answers differently");
+    }
+    let mut speeds = vec![Vec::new(); programs.len()];
+    for _ in 0..effort.sheet_rounds {
         for (place, (_, program)) in programs.iter().enumerate() {
-            speeds[place].push(speed(program, &sheet));
+            speeds[place].push(speed(program, &sheet, effort.lines));
         }
     }
     let small = [2_000, 12_000];
     let small_sheets = small.map(|lines| (lines, SheetFile::new(lines)));
     let rows = programs.iter().enumerate().map(|(place, (name, program))| {
         let ratios = speeds[0].iter().zip(&speeds[place]).map(|(product, this)| product / this);
-        let instructions = instructions_per_item(small, 1, |command, lines| {
+        let instructions = instructions_per_item(effort, small, 1, |command, lines| {
             let (_, sheet) = small_sheets.iter().find(|(count, _)| *count == lines).unwrap();
             command.arg(program).stdin(sheet.open());
         });
@@ -115,7 +110,7 @@ pub fn race() {
         ]
     });
     print_table(
-        &format!("Sheets of {LINES} mixed lines, the same answers byte for byte"),
+        &format!("Sheets of {} mixed lines, the same answers byte for byte", effort.lines),
         &["", "lines per second, median", "best", "time / bkm", "instructions per line"],
         rows,
     );

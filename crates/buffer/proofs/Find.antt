@@ -26,6 +26,20 @@ module _ (m : ℕ) (s : List ℕ) (i : ℕ) where
   unfolding before
   found-none h = rw (drop-of-length-le s h) (omega arith)
 
+  pub passed : i < length s → (getD s i 0 ≡ m → ⊥) → i < findByte m s i
+  passed h n = omega (arith, found-later h n)
+
+-- ---- a search that has come to i: there it is, or it goes on
+module _ (m : ℕ) (s : List ℕ) (from i : ℕ) (e : findByte m s i ≡ findByte m s from) where
+  pub search-ends : i < length s → getD s i 0 ≡ m → i ≡ findByte m s from
+  search-ends h k = sym (found-here m s i h k) ∙ e
+
+  pub search-over : length s ≤ i → i ≡ findByte m s from
+  search-over h = sym (found-none m s i h) ∙ e
+
+  pub search-more : (j : ℕ) → j ≡ i + 1 → i < length s → (getD s i 0 ≡ m → ⊥) → findByte m s j ≡ findByte m s from
+  search-more j k h n = ap (findByte m s) k ∙ (sym (found-later m s i h n) ∙ e)
+
 -- ---- what lies up to it: bytes that are not m
 abbrev pub Without : ℕ → List ℕ → Type 0
 Without m [] = Unit {0}

@@ -39,6 +39,10 @@ go-on {b} {at} {xs} ys p = rw (p .bytes, p .after) (sets-append xs ys b at)
 pub kept : {b : List ℕ} {at : ℕ} {xs b′ : List ℕ} {end : ℕ} → Put b at xs b′ end → length b′ ≡ length b
 kept {b} {at} {xs} p = ap length (p .bytes) ∙ length-sets b at xs
 
+-- how long a run is that is made of two
+pub both : {whole : List ℕ} (xs ys : List ℕ) → whole ≡ xs ++ ys → length whole ≡ length xs + length ys
+both xs ys e = ap length e ∙ length-append xs ys
+
 -- a run from the front
 pub to-front : {b xs b′ : List ℕ} {end : ℕ} → Put b 0 xs b′ end → length xs ≤ length b → Front xs b b′ end
 to-front {b} {xs} p h = record { bytes = p .bytes ∙ (sets-eq xs b 0 (rw zero-add h) ∙ rw zero-add); count = omega (arith, p .after) }

@@ -16,7 +16,7 @@ use borrow.Author.Tests.{lt-ltb, le-ltb, ltb-false, ne-eqb, eqb-true, eqb-false,
 use Rattle.buffer.specs.declared.reading.Natural.{Natural}
 use Rattle.buffer.specs.Decimal.{showNatural, showNumber, value, upTo, readNatural, readNumber, plus, minus}
 use Rattle.buffer.proofs.Either.{either}
-use Rattle.buffer.proofs.Written.{digits-ind, digits-one, digits-more, small-or, short-number}
+use Rattle.buffer.proofs.Written.{digits-ind, digits-one, digits-more, small-or, short, short-number}
 use Rattle.buffer.specs.declared.reading.Natural.the-variants as nat
 use Rattle.buffer.specs.declared.reading.Number.the-variants as num
 
@@ -116,7 +116,7 @@ no-natural v e = absurd (bad e)
     bad : nat.Not ≡ nat.Is v → ⊥
     bad e = let z : _≡_ {A = ℕ} 0 1 = cc in omega arith
 
-no-number : {A : Type 0} (z : ℤ) → num.Not ≡ num.Is z → A
+pub no-number : {A : Type 0} (z : ℤ) → num.Not ≡ num.Is z → A
 no-number z e = absurd (bad e)
   where
     bad : num.Not ≡ num.Is z → ⊥
@@ -182,9 +182,19 @@ natural-is (d ∷ ds) v e =
         let all = more-digits ds (d - 48) v (above d n (r .low)) (rw a at (r .then)) in
         record { written = rw (start, x) at all; small = p .1 }
 
--- the reader's size fits
+-- the reader's size fits, and has no more than 19 digits
 pub natural-small : (f : List ℕ) (v : ℕ) → readNatural f ≡ nat.Is v → v ≤ 2 ^ 63
 natural-small f v e = natural-is f v e .small
+
+pub natural-long : (f : List ℕ) → 19 < length f → readNatural f ≡ nat.Not
+natural-long f h = go (readNatural f) refl
+  where
+    bad : (v : ℕ) → IsNatural f v → ⊥
+    bad v i = omega (arith, ap length (i .written), short 18 v (omega (arith, i .small)))
+
+    go : (n : Natural) → readNatural f ≡ n → n ≡ nat.Not
+    go nat.Not e = refl
+    go (nat.Is v) e = absurd (bad v (natural-is f v e))
 
 pub record IsNumber (f : List ℕ) (z : ℤ) : Type 0 where
   pub written : f ≡ showNumber z

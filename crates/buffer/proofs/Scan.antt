@@ -1,14 +1,15 @@
 -- The reader's ways through a part of a line: a byte more of a number, and the number as a whole.
-use mathlib.Core.Path.{_≡_}
+use mathlib.Core.Path.{_≡_, _∙_}
 use mathlib.Core.Bool.{cond}
-use mathlib.Core.List.{List, [], _∷_}
+use mathlib.Core.List.{List, _∷_}
 use Prim.Native.Nat.{ℕ, suc, _+_, _*_, _-_, _^_, _≤_, _<_}
 use native.Mathlib.Numerals.{add-one}
 use native.Mathlib.Omega.{arith}
-use lib.Dec.{ltb}
+use native.Mathlib.Nat.{pow-suc, pow-le-pow-right, lt-of-lt-of-le}
+use lib.Dec.{ltb, lit<}
 use lib.ListN.{length, getD}
 use lib.Seq.{slice, slice-cons, slice-empty, length-slice}
-use borrow.Author.Tests.{lt-ltb, le-ltb, eq-eqb, ne-eqb, lt-leb}
+use borrow.Author.Tests.{lt-ltb, le-ltb, ltb-false, eq-eqb, ne-eqb}
 use Rattle.buffer.specs.declared.reading.Natural.{Natural}
 use Rattle.buffer.specs.Decimal.{value, upTo, readNatural, readNumber, plus, minus}
 use Rattle.buffer.proofs.Either.{either}
@@ -16,14 +17,6 @@ use Rattle.buffer.specs.declared.reading.Natural.the-variants as nat
 use Rattle.buffer.specs.declared.reading.Number.the-variants as num
 
 -- ---- digit by digit
--- a number that has grown past m stays past it
-pub big : (m acc : ℕ) (ds : List ℕ) → m < acc → upTo m (value acc ds) ≡ nat.Not
-unfolding value
-big m acc [] h = rw (lt-leb acc m h)
-big m acc (d ∷ ds) h =
-    let more = big m (acc * 10 + (d - 48)) ds (omega arith) in
-    either (ltb d 48) (λ e. rw e) (λ e. rw e (either (ltb 57 d) (λ f. rw f) (λ f. rw f more)))
-
 -- a byte more
 abbrev pub oneMore : List ℕ → ℕ → ℕ → ℕ → Natural
 oneMore s i to acc = cond (ltb (getD s i 0) 48) nat.Not
@@ -36,6 +29,28 @@ value-more s i to acc h k = rw (slice-cons i to s 0 h k)
 pub value-end : (s : List ℕ) (i to acc : ℕ) → i ≡ to → value acc (slice i to s) ≡ nat.Is acc
 unfolding value
 value-end s i to acc e = rw (e, slice-empty to s)
+
+-- a byte that is a digit, and one that is none
+module _ (s : List ℕ) (i to acc : ℕ) (h : i < to) (k : to ≤ length s) where
+  pub value-digit : (d : ℕ) → d ≤ 9 → getD s i 0 ≡ d + 48 → value acc (slice i to s) ≡ value (acc * 10 + d) (slice (i + 1) to s)
+  value-digit d l e =
+      let lo : 48 ≤ getD s i 0 = omega arith in
+      let hi : getD s i 0 ≤ 57 = omega arith in
+      let n : getD s i 0 - 48 ≡ d = omega arith in
+      value-more s i to acc h k ∙ rw (add-one, le-ltb _ _ lo, le-ltb _ _ hi, n)
+
+  pub value-other : (48 ≤ getD s i 0 → getD s i 0 ≤ 57 → ⊥) → value acc (slice i to s) ≡ nat.Not
+  value-other n =
+      value-more s i to acc h k
+      ∙ either (ltb (getD s i 0) 48) (λ e. rw e)
+      (λ e. rw e (either (ltb 57 (getD s i 0)) (λ f. rw f) (λ f. absurd (n (ltb-false _ _ e) (ltb-false _ _ f)))))
+
+-- ---- so many digits are worth less than the power of ten
+pub digit-more : (k n d : ℕ) → n < 10 ^ k → d ≤ 9 → n * 10 + d < 10 ^ suc k
+digit-more k n d h l = rw pow-suc (omega arith)
+
+pub digits-most : (k n : ℕ) → n < 10 ^ k → k ≤ 18 → n < 10 ^ 18
+digits-most k n h l = lt-of-lt-of-le h (pow-le-pow-right (lit< tt) l)
 
 -- ---- no digit, a zero in front, and the digits otherwise
 module _ (s : List ℕ) (from to : ℕ) where

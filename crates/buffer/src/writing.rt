@@ -1,7 +1,7 @@
 // Writing: each from `at` on, and back comes the place behind what was written.
 ghost use mathlib.Core.Path.{_≡_};
 ghost use mathlib.Core.Bool.{true};
-ghost use Prim.Native.Nat.{_+_, _*_, _≤_};
+ghost use Prim.Native.Nat.{_+_, _*_, _≤_, _<_};
 ghost use lib.Dec.{leb};
 ghost use lib.IntN.{natAbs};
 ghost use lib.ListN.{length};
@@ -12,22 +12,92 @@ ghost use Rattle.buffer.specs.Decimal.{showNatural, showNumber};
 ghost use Rattle.buffer.specs.Lines.{fieldBytes, lineBytes};
 ghost use Rattle.buffer.specs.Words.{bytes as low-bytes, encode};
 ghost use Rattle.buffer.specs.Fitting.{fitting};
-ghost use Rattle.buffer.specs.Code.{Put};
+ghost use Rattle.buffer.specs.Code.{Put, halves};
 
 // ---- where there is room
+
+// Numbers below 10, 100, 10^4 and 10^8 in one, two, four and eight digits, zeros in front.
+fn write_digit(v: u64, out: &mut [u8], at: usize) -> usize
+    requires { ⌜ (v < 10) × (at + length (halves 0 v) ≤ length (now out)) ⌝ }
+    ensures { λ r. ⌜ Put (now (out .entry)) at (halves 0 v) (now (out .exit)) r ⌝ }
+{
+    out[at] = 48 + v as u8;
+    at + 1
+}
+
+fn write_two(v: u64, out: &mut [u8], at: usize) -> usize
+    requires { ⌜ (v < 100) × (at + length (halves 1 v) ≤ length (now out)) ⌝ }
+    ensures { λ r. ⌜ Put (now (out .entry)) at (halves 1 v) (now (out .exit)) r ⌝ }
+{
+    let end = write_digit(v / 10, out, at);
+    write_digit(v % 10, out, end)
+}
+
+fn write_four(v: u64, out: &mut [u8], at: usize) -> usize
+    requires { ⌜ (v < 10000) × (at + length (halves 2 v) ≤ length (now out)) ⌝ }
+    ensures { λ r. ⌜ Put (now (out .entry)) at (halves 2 v) (now (out .exit)) r ⌝ }
+{
+    let end = write_two(v / 100, out, at);
+    write_two(v % 100, out, end)
+}
+
+fn write_eight(v: u64, out: &mut [u8], at: usize) -> usize
+    requires { ⌜ (v < 100000000) × (at + length (halves 3 v) ≤ length (now out)) ⌝ }
+    ensures { λ r. ⌜ Put (now (out .entry)) at (halves 3 v) (now (out .exit)) r ⌝ }
+{
+    let end = write_four(v / 10000, out, at);
+    write_four(v % 10000, out, end)
+}
+
+// The digits of a number that has at most two, four and eight of them.
+fn write_to_two(v: u64, out: &mut [u8], at: usize) -> usize
+    requires { ⌜ (v < 100) × (at + length (showNatural v) ≤ length (now out)) ⌝ }
+    ensures { λ r. ⌜ Put (now (out .entry)) at (showNatural v) (now (out .exit)) r ⌝ }
+{
+    if v < 10 {
+        return write_digit(v, out, at);
+    }
+    write_two(v, out, at)
+}
+
+fn write_to_four(v: u64, out: &mut [u8], at: usize) -> usize
+    requires { ⌜ (v < 10000) × (at + length (showNatural v) ≤ length (now out)) ⌝ }
+    ensures { λ r. ⌜ Put (now (out .entry)) at (showNatural v) (now (out .exit)) r ⌝ }
+{
+    if v < 100 {
+        return write_to_two(v, out, at);
+    }
+    let end = write_to_two(v / 100, out, at);
+    write_two(v % 100, out, end)
+}
+
+fn write_to_eight(v: u64, out: &mut [u8], at: usize) -> usize
+    requires { ⌜ (v < 100000000) × (at + length (showNatural v) ≤ length (now out)) ⌝ }
+    ensures { λ r. ⌜ Put (now (out .entry)) at (showNatural v) (now (out .exit)) r ⌝ }
+{
+    if v < 10000 {
+        return write_to_four(v, out, at);
+    }
+    let end = write_to_four(v / 10000, out, at);
+    write_four(v % 10000, out, end)
+}
 
 // The digits of v.
 fn write_natural(v: u64, out: &mut [u8], at: usize) -> usize
     requires { ⌜ at + length (showNatural v) ≤ length (now out) ⌝ }
     ensures { λ r. ⌜ Put (now (out .entry)) at (showNatural v) (now (out .exit)) r ⌝ }
 {
-    if v < 10 {
-        out[at] = 48 + v as u8;
-        return at + 1;
+    if v < 100000000 {
+        return write_to_eight(v, out, at);
     }
-    let end = write_natural(v / 10, out, at);
-    out[end] = 48 + (v % 10) as u8;
-    end + 1
+    let high = v / 100000000;
+    if high < 100000000 {
+        let end = write_to_eight(high, out, at);
+        return write_eight(v % 100000000, out, end);
+    }
+    let end = write_to_eight(high / 100000000, out, at);
+    let mid = write_eight(high % 100000000, out, end);
+    write_eight(v % 100000000, out, mid)
 }
 
 // z without its sign.

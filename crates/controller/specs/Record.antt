@@ -1,10 +1,11 @@
 -- What a C call hands back and writes (01, Points and units).
 use mathlib.Core.Bool.{cond}
 use mathlib.Core.List.{List, _++_}
-use Prim.Native.Nat.{ℕ}
+use Prim.Native.Nat.{ℕ, zero, suc}
 use lib.Dec.{ltb}
 use lib.IntN.{ℤ, pos}
 use lib.ListN.{length, drop}
+use Rattle.algebra.specs.Gauss.{𝔾}
 use Rattle.buffer.specs.Words.{encode}
 use Rattle.answer.specs.Record.{refusal-in}
 
@@ -15,3 +16,8 @@ handed out numbers = cond (ltb (length out) 48) (pos 6) (refusal-in numbers)
 -- "nothing written; bytes past the 48 keep their values"
 abbrev pub written : List ℕ → List ℤ → List ℕ
 written out numbers = cond (ltb (length out) 48) out (encode numbers ++ drop 48 out)
+
+-- the real part of a number for 0, the imaginary one for any other
+abbrev pub partOf : ℕ → 𝔾 → ℤ
+partOf zero z = z .re
+partOf (suc k) z = z .im

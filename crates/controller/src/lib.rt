@@ -1,9 +1,12 @@
-// EXP and LOG for C: plain numbers in, 48 bytes into a lent buffer. include/bkm.h is the contract in plain words.
+// The calls for C: EXP and LOG on plain numbers, 48 bytes into a lent buffer; a line of a sheet; an entry of the step table. include/bkm.h is
+// the contract in plain words.
 ghost use mathlib.Core.Path.{_≡_};
 ghost use Rattle.answer.specs.Record.{recordOf};
+ghost use Rattle.table_numbers.specs.Table.{stepTable};
 ghost use Rattle.exponential.specs.Answer.{expAnswer};
 ghost use Rattle.logarithm.specs.Answer.{logAnswer};
-ghost use Rattle.controller.specs.Record.{handed, written};
+ghost use Rattle.text.specs.Answer.{reply, countFor, outFor};
+ghost use Rattle.controller.specs.Record.{handed, written, partOf};
 use answer::Answer;
 use point::Point;
 
@@ -36,4 +39,25 @@ pub extern "C" fn bkm_log(n: i64, x: i64, y: i64, out: &mut [u8]) -> i64
 {
     let answer = logarithm::log(n, Point { x, y });
     hand_over(answer, out)
+}
+
+// The answer to a line of a sheet, which comes without its newline: how many bytes it has, its newline counted, or 0 where the buffer is too
+// short for any answer and nothing is written.
+#[no_mangle]
+pub extern "C" fn bkm_line(line: &[u8], out: &mut [u8]) -> usize
+    ensures count { λ r. ⌜ r ≡ countFor (reply (now (line .entry))) (now (out .entry)) ⌝ }
+    ensures bytes { λ r. ⌜ now (out .exit) ≡ outFor (reply (now (line .entry))) (now (out .entry)) ⌝ }
+{
+    let a = text::answer_line(line, out);
+    a.written
+}
+
+// A part of the entry of step n for the digit (dx, dy), out of the array of the step table: 0 is the real part, any other number the imaginary
+// one. Outside the table it is 0.
+#[no_mangle]
+pub extern "C" fn bkm_step_entry(n: usize, dx: i64, dy: i64, part: usize) -> i64
+    ensures { λ r. ⌜ r ≡ partOf part (stepTable n dx dy) ⌝ }
+{
+    let e = tables::pick(step_table::array_row(n, dx), dy);
+    if part == 0 { e.re } else { e.im }
 }

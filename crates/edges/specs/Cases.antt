@@ -1,98 +1,158 @@
--- The P cases of 01 as one table, and what it is for a case to hold.
+-- The P cases of 01 as one table ("Edges, proved ones marked P"), and what it is for a case to hold: what stands in the records that the
+-- calls hand out.
 use mathlib.Core.Path.{_≡_}
-use mathlib.Core.List.{List, [], _∷_}
-use Prim.Native.Nat.{ℕ, _+_, _^_}
+use mathlib.Core.List.{List, [], _∷_, map}
+use Prim.Native.Nat.{ℕ, zero, suc, _+_, _^_}
 use lib.IntN.{ℤ, pos, negℤ}
 use lib.ListN.{length}
 use Rattle.algebra.specs.Gauss.{𝔾, gi}
-use Rattle.point.specs.Point.{gauss}
-use Rattle.answer.specs.Record.{recordOf, refusal-in}
+use Rattle.point.specs.Point.{gauss, nought, one}
+use Rattle.answer.specs.declared.Answer.{Answer}
+use Rattle.answer.specs.Record.{recordOf, refusal-in, re-in, im-in, binary-exponent-in, quadrant-in}
 use Rattle.table_numbers.specs.Reciprocal.{reciprocal}
 use Rattle.table_numbers.specs.Table.{stepTable, reciprocalTable}
+use Rattle.iteration.specs.declared.State.{State}
 use Rattle.iteration.specs.declared.Mode.the-variants.{Exp, Log}
-use Rattle.iteration.specs.Run.{state, run, digits}
+use Rattle.iteration.specs.Run.{state, next, digits}
 use Rattle.exponential.specs.Answer.{expAnswer}
-use Rattle.logarithm.specs.Reduction.{turned, quadrant, binary-exponent}
+use Rattle.logarithm.specs.Reduction.{turned}
 use Rattle.logarithm.specs.Answer.{begun, logAnswer}
 
+-- ---- a call, what it answers and the record of that
+pub data Call : Type 0 where
+  EXP : (n : ℤ) (exponent start : 𝔾) → Call
+  LOG : (n : ℤ) (point : 𝔾) → Call
+
+abbrev pub answerTo : Call → Answer
+answerTo (EXP n e s) = expAnswer n (e .re) (e .im) (s .re) (s .im)
+answerTo (LOG n p) = logAnswer n (p .re) (p .im)
+
+abbrev pub handed : Call → List ℤ
+handed c = recordOf (answerTo c)
+
+-- the two parts
+abbrev pub value-of : Call → 𝔾
+value-of c = let r = handed c in gi (re-in r) (im-in r)
+
 -- ---- what a case says
+-- a number at a place of a record
+abbrev pub Field : Type 0
+Field = (List ℤ → ℤ) × ℤ
+
 pub data Case : Type 0 where
-  -- EXP of N, an exponent and a start, LOG of N and a point: the number that it is refused with, 0 where it is accepted
-  exp-refusal : (n : ℤ) (exponent start : 𝔾) (number : ℤ) → Case
-  log-refusal : (n : ℤ) (point : 𝔾) (number : ℤ) → Case
-  -- the digits that open it, from step 1 for EXP and from step 3 for LOG
-  exp-digits : (exponent : 𝔾) (digits : List 𝔾) → Case
-  log-digits : (point : 𝔾) (digits : List 𝔾) → Case
-  -- the start after some steps of an exponent
-  exp-start : (exponent start : 𝔾) (steps : ℕ) (after : 𝔾) → Case
-  -- q and k of a point
-  log-q : (point : 𝔾) (q : ℤ) → Case
-  log-k : (point : 𝔾) (k : ℤ) → Case
-  -- the seat of the cell with centre (X + iY)/32, in 64ths
-  seat : (X Y : ℤ) (number : 𝔾) → Case
+  -- these numbers stand in the record that a call hands out
+  hands-out : Call → List Field → Case
+  -- these digits open EXP of an exponent from step 1 on, LOG of a point from step 3 on
+  exp-opens : (exponent : 𝔾) (digits : List 𝔾) → Case
+  log-opens : (point : 𝔾) (digits : List 𝔾) → Case
+  -- the reciprocal ("seat") of the cell with centre (X + iY)/32, in 64ths
+  has-reciprocal : (X Y : ℤ) (number : 𝔾) → Case
 
 -- ---- the table: "What a case leaves unsaid: N is 40, the exponent nought, the start or the point one, the other part 0"
-abbrev one : 𝔾
-one = gi (pos (2 ^ 48)) (pos 0)
+abbrev minus : ℕ → ℤ
+minus n = negℤ (pos n)
 
-abbrev nought : 𝔾
-nought = gi (pos 0) (pos 0)
+abbrev real : ℤ → 𝔾
+real x = gi x (pos 0)
+
+abbrev imaginary : ℤ → 𝔾
+imaginary y = gi (pos 0) y
+
+abbrev pub unity : 𝔾
+unity = one 48
+
+-- digits
+abbrev d1 : 𝔾
+d1 = gi (pos 1) (pos 0)
+
+abbrev d1+i : 𝔾
+d1+i = gi (pos 1) (pos 1)
+
+abbrev di : 𝔾
+di = gi (pos 0) (pos 1)
+
+abbrev d0 : 𝔾
+d0 = gi (pos 0) (pos 0)
+
+abbrev d-1 : 𝔾
+d-1 = gi (minus 1) (pos 0)
+
+abbrev d-1+i : 𝔾
+d-1+i = gi (minus 1) (pos 1)
+
+-- numbers in a record
+abbrev accepted : Field
+accepted = (refusal-in, pos 0)
+
+abbrev refused : ℕ → Field
+refused r = (refusal-in, pos r)
+
+abbrev k= : ℤ → Field
+k= k = (binary-exponent-in, k)
+
+abbrev q= : ℕ → Field
+q= q = (quadrant-in, pos q)
 
 -- "(143552238122434, 81627743246090), which is 0.51 + 0.29i cut"
 abbrev figure : 𝔾
 figure = gi (pos 143552238122434) (pos 81627743246090)
 
-abbrev minus : ℕ → ℤ
-minus n = negℤ (pos n)
-
 abbrev pub cases : List Case
 cases =
     -- "EXP ex 241892558110720 accepted; one more: 2"
-    exp-refusal (pos 40) (gi (pos 241892558110720) (pos 0)) one (pos 0)
-    ∷ exp-refusal (pos 40) (gi (pos 241892558110721) (pos 0)) one (pos 2)
+    hands-out (EXP (pos 40) (real (pos 241892558110720)) unity) (accepted ∷ [])
+    ∷ hands-out (EXP (pos 40) (real (pos 241892558110721)) unity) (refused 2 ∷ [])
     -- "start part 2^58 and −2^58 accepted; 2^58 + 1 and −2^63: 3", in either part
-    ∷ exp-refusal (pos 40) nought (gi (pos (2 ^ 58)) (pos 0)) (pos 0)
-    ∷ exp-refusal (pos 40) nought (gi (minus (2 ^ 58)) (pos 0)) (pos 0)
-    ∷ exp-refusal (pos 40) nought (gi (pos (2 ^ 58 + 1)) (pos 0)) (pos 3)
-    ∷ exp-refusal (pos 40) nought (gi (minus (2 ^ 63)) (pos 0)) (pos 3)
-    ∷ exp-refusal (pos 40) nought (gi (pos 0) (pos (2 ^ 58))) (pos 0)
-    ∷ exp-refusal (pos 40) nought (gi (pos 0) (minus (2 ^ 58))) (pos 0)
-    ∷ exp-refusal (pos 40) nought (gi (pos 0) (pos (2 ^ 58 + 1))) (pos 3)
-    ∷ exp-refusal (pos 40) nought (gi (pos 0) (minus (2 ^ 63))) (pos 3)
+    ∷ hands-out (EXP (pos 40) nought (real (pos (2 ^ 58)))) (accepted ∷ [])
+    ∷ hands-out (EXP (pos 40) nought (real (minus (2 ^ 58)))) (accepted ∷ [])
+    ∷ hands-out (EXP (pos 40) nought (real (pos (2 ^ 58 + 1)))) (refused 3 ∷ [])
+    ∷ hands-out (EXP (pos 40) nought (real (minus (2 ^ 63)))) (refused 3 ∷ [])
+    ∷ hands-out (EXP (pos 40) nought (imaginary (pos (2 ^ 58)))) (accepted ∷ [])
+    ∷ hands-out (EXP (pos 40) nought (imaginary (minus (2 ^ 58)))) (accepted ∷ [])
+    ∷ hands-out (EXP (pos 40) nought (imaginary (pos (2 ^ 58 + 1)))) (refused 3 ∷ [])
+    ∷ hands-out (EXP (pos 40) nought (imaginary (minus (2 ^ 63)))) (refused 3 ∷ [])
     -- "N = 0 with a bad exponent: 1. LOG N = 2: 1; N = 3 accepted"; the exponent is over 8, so it is bad under request E5 too
-    ∷ exp-refusal (pos 0) (gi (pos (2 ^ 51 + 1)) (pos 0)) one (pos 1)
-    ∷ log-refusal (pos 2) one (pos 1)
-    ∷ log-refusal (pos 3) one (pos 0)
+    ∷ hands-out (EXP (pos 0) (real (pos (2 ^ 51 + 1))) unity) (refused 1 ∷ [])
+    ∷ hands-out (LOG (pos 2) unity) (refused 1 ∷ [])
+    ∷ hands-out (LOG (pos 3) unity) (accepted ∷ [])
     -- "digits 1, 1+i, −1, i, i, 0, −1, 0 open it (figure 1 of 001)"
-    ∷ exp-digits figure
-    (gi (pos 1) (pos 0) ∷ gi (pos 1) (pos 1) ∷ gi (minus 1) (pos 0) ∷ gi (pos 0) (pos 1) ∷ gi (pos 0) (pos 1)
-    ∷ nought ∷ gi (minus 1) (pos 0) ∷ nought ∷ [])
+    ∷ exp-opens figure (d1 ∷ d1+i ∷ d-1 ∷ di ∷ di ∷ d0 ∷ d-1 ∷ d0 ∷ [])
     -- "one as its start after three of these steps: 1.640625 + 0.328125i", which is (105 + 21i)/64
-    ∷ exp-start figure one 3 (gi (pos 461794883665920) (pos 92358976733184))
+    ∷ hands-out (EXP (pos 3) figure unity) (accepted ∷ (re-in, pos 461794883665920) ∷ (im-in, pos 92358976733184) ∷ [])
     -- "LOG of (0, 5): q = 1; (5, 5): 0; (5, −5): 3; (−1, 0): 2 and k = −47"
-    ∷ log-q (gi (pos 0) (pos 5)) (pos 1)
-    ∷ log-q (gi (pos 5) (pos 5)) (pos 0)
-    ∷ log-q (gi (pos 5) (minus 5)) (pos 3)
-    ∷ log-q (gi (minus 1) (pos 0)) (pos 2)
-    ∷ log-k (gi (minus 1) (pos 0)) (minus 47)
+    ∷ hands-out (LOG (pos 40) (gi (pos 0) (pos 5))) (accepted ∷ q= 1 ∷ [])
+    ∷ hands-out (LOG (pos 40) (gi (pos 5) (pos 5))) (accepted ∷ q= 0 ∷ [])
+    ∷ hands-out (LOG (pos 40) (gi (pos 5) (minus 5))) (accepted ∷ q= 3 ∷ [])
+    ∷ hands-out (LOG (pos 40) (gi (minus 1) (pos 0))) (accepted ∷ q= 2 ∷ k= (minus 47) ∷ [])
     -- "cell X = 17, Y = 1: seat (120 − 7i)/64"
-    ∷ seat (pos 17) (pos 1) (gi (pos 120) (minus 7))
+    ∷ has-reciprocal (pos 17) (pos 1) (gi (pos 120) (minus 7))
     -- "LOG of one: k = 1, q = 0, digits 1, −1+i, 0 for n = 3, 4, 5"
-    ∷ log-k one (pos 1)
-    ∷ log-q one (pos 0)
-    ∷ log-digits one (gi (pos 1) (pos 0) ∷ gi (minus 1) (pos 1) ∷ nought ∷ [])
+    ∷ hands-out (LOG (pos 40) unity) (accepted ∷ k= (pos 1) ∷ q= 0 ∷ [])
+    ∷ log-opens unity (d1 ∷ d-1+i ∷ d0 ∷ [])
     ∷ []
 
 -- ---- what it is for a case to hold
+-- the values that a call hands out at N = n + 1, .., n + k
+abbrev pub values : (ℕ → Call) → ℕ → ℕ → List 𝔾
+values call n zero = []
+values call n (suc k) = value-of (call (suc n)) ∷ values call (suc n) k
+
+-- the states after the steps n + 1, n + 2, .. by given digits
+abbrev pub states : ℕ → State → List 𝔾 → List State
+states n x [] = []
+states n x (d ∷ ds) = let y = next stepTable (suc n) d x in y ∷ states (suc n) y ds
+
+-- "Digits belong to the definition; no call hands them back": they are the definition's, and the calls from N = 1 or 3 on hand out what the
+-- steps by them make, one being the start
 abbrev pub Holds : Case → Type 0
-Holds (exp-refusal n e s r) = refusal-in (recordOf (expAnswer n (e .re) (e .im) (s .re) (s .im))) ≡ r
-Holds (log-refusal n p r) = refusal-in (recordOf (logAnswer n (p .re) (p .im))) ≡ r
-Holds (exp-digits e ds) = digits 48 stepTable Exp 0 (length ds) (state nought e) ≡ ds
-Holds (log-digits p ds) = digits 48 stepTable Log 2 (length ds) (begun 48 reciprocalTable (turned p)) ≡ ds
-Holds (exp-start e s n after) = gauss (run 48 stepTable Exp 0 n (state s e) .point) ≡ after
-Holds (log-q p q) = quadrant p ≡ q
-Holds (log-k p k) = binary-exponent 48 (turned p) ≡ k
-Holds (seat X Y c) = reciprocal X Y ≡ c
+Holds (hands-out c fs) = map (λ f. f .0 (handed c)) fs ≡ map (λ f. f .1) fs
+Holds (exp-opens e ds) = let x = state unity e in
+    (digits 48 stepTable Exp 0 (length ds) x ≡ ds)
+    × (values (λ n. EXP (pos n) e unity) 0 (length ds) ≡ map (λ y. gauss (y .point)) (states 0 x ds))
+Holds (log-opens p ds) = let x = begun 48 reciprocalTable (turned p) in
+    (digits 48 stepTable Log 2 (length ds) x ≡ ds)
+    × (values (λ n. LOG (pos n) p) 2 (length ds) ≡ map (λ y. gauss (y .sum)) (states 2 x ds))
+Holds (has-reciprocal X Y c) = reciprocal X Y ≡ c
 
 abbrev pub All : List Case → Type 0
 All [] = Unit {0}

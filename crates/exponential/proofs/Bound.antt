@@ -11,8 +11,7 @@ use Rattle.algebra.proofs.Reify.{reify}
 use Rattle.algebra.proofs.Linear.{lin, lin<, _&_, none}
 use Rattle.algebra.proofs.Power.{two-pos}
 use Rattle.algebra.proofs.Floor.{floor-lo, floor-hi}
-use Rattle.iteration.specs.Run.{rounding-share}
-use Rattle.exponential.specs.Answer.{errorBound}
+use Rattle.exponential.specs.Answer.{rounding-share, errorBound}
 
 module _ (n : ℕ) (s : 𝔾) where
   abbrev ρ : List ℤ

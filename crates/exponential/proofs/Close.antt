@@ -26,7 +26,7 @@ use Rattle.answer.proofs.Tests.{unless-keeps}
 use Rattle.table_numbers.specs.Promise.{StepTable}
 use Rattle.table_numbers.specs.Table.{stepTable}
 use Rattle.table_numbers.proofs.Promises.{StepPromise}
-use Rattle.table_numbers.proofs.Promise48.{step-promise}
+use Rattle.tables.proofs.Promises.{step-promise}
 use Rattle.iteration.specs.Run.{state}
 use Rattle.exponential.specs.Answer.{inRectangle, ended, figures, answer, errorBound, expAnswer, miss, allowed, CloseAt, Close}
 use Rattle.exponential.proofs.Convergence.{Rectangle, Below, converges}

@@ -1,7 +1,7 @@
 -- The error of EXP (01, What demand 3 compares): each part of the answer, less the start times the exact exponential of the exponent, is at
 -- most 8·m/2^N + rounding-share·N units, m being the start's larger part in size. At every width, for every table that keeps its promise.
 -- From the drift of the iteration, and what is left of the exponent at the end.
-use mathlib.Core.Path.{_≡_, sym, _∙_, ap, subst}
+use mathlib.Core.Path.{_≡_, refl, sym, _∙_, ap, subst}
 use mathlib.Core.List.{[], _∷_}
 use Prim.Native.Nat.{ℕ, suc, _+_, _-_, _^_, _≤_}
 use native.Mathlib.Omega.{arith}
@@ -24,10 +24,15 @@ use Rattle.table_numbers.specs.Promise.{StepTable}
 use Rattle.table_numbers.proofs.Promises.{StepPromise}
 use Rattle.iteration.specs.declared.State.{State}
 use Rattle.iteration.specs.declared.Mode.the-variants.{Exp}
-use Rattle.iteration.specs.Run.{rounding-share, state, run}
+use Rattle.iteration.specs.Run.{state, run}
 use Rattle.iteration.proofs.Factor.{product-most}
-use Rattle.iteration.proofs.Drift.{Short, Near, near-start, drift}
+use Rattle.iteration.proofs.Drift.{drift-a-step, Short, Near, near-start, drift}
+use Rattle.exponential.specs.Answer.{rounding-share}
 use Rattle.exponential.proofs.Convergence.{Rectangle, below-parts, Boxed, boxed-start, boxed-next, boxed-below, boxed}
+
+-- the share of the error bound that the steps' rounding has is what the point drifts in them
+share-is : drift-a-step ≡ rounding-share
+share-is = refl
 
 -- ---- the end, as algebra: q = 2^N, one is 64·q·v units, S is the exponential of what is left, which is at most 91·v long
 module _ (q v n P δ m : ℤ) (p s Q S S₀ : 𝔾) (q≥2 : pos 2 ⩽ q) (v≥1 : pos 1 ⩽ v) (n≤40 : n ⩽ pos 40) (P≥0 : pos 0 ⩽ P) (δ≥1 : pos 1 ⩽ δ)
@@ -142,7 +147,7 @@ module _ (F M : ℕ) (wide : 16 ≤ F) (room : M + 8 ≤ F) (t : StepTable) (pro
       ((pos 520 *ℤ m +ℤ pos 70 *ℤ (rounding-share *ℤ pos n *ℤ two n)) *ℤ Dᶻ (2 ^ F) T)
   exp-error-share T long n h g k = within-parts (total (two n) v (pos n) (Dᶻ (2 ^ F) T) (a .exact .δ) m (gauss (x n .point)) s (a .exact .Q)
       (Sᵍ (2 ^ F) T (gauss (x n .sum))) (Sᵍ (2 ^ F) T e) q≥2 (two≥1 (F - 6 - n)) (pos-mono k) (nonneg-pos (D (2 ^ F) T)) (a .exact .δ≥1)
-      given (a .exact .length) (a .exact .rounded) (a .tabled)
+      given (a .exact .length) rounded (a .tabled)
       (subst (λ U. Within (ιᵍ (pos 2 *ℤ U -ℤ pos 91 *ℤ v) *ᵍ (Sᵍ (2 ^ F) T (gauss (x n .sum)) -ᵍ Dᵍ (2 ^ F) T))
       (pos 2 *ℤ (pos 91 *ℤ v) *ℤ Dᶻ (2 ^ F) T)) (sym unit)
       (laws-at F .near-one left (lin (v ∷ two F ∷ []) (two-mul-le 6 (F - 6 - n) F (omega arith) & nonneg-pos (2 ^ (F - 6 - n)) & none)
@@ -170,6 +175,10 @@ module _ (F M : ℕ) (wide : 16 ≤ F) (room : M + 8 ≤ F) (t : StepTable) (pro
           (λ j y h. boxed-next F M wide room t promise j y (omega arith)) (λ j y h. short j (gauss (y .sum)) (omega arith))
           0 n n (state s e) (omega arith) (omega arith) (boxed-start F M wide room t promise e rect)
           (near-start s e (pos 4 *ℤ Dᶻ (2 ^ F) T))
+
+      rounded : Within (ιᵍ (a .exact .δ) *ᵍ gauss (x n .point) -ᵍ a .exact .Q *ᵍ s) (rounding-share *ℤ pos n *ℤ a .exact .δ)
+      rounded = subst (λ k. Within (ιᵍ (a .exact .δ) *ᵍ gauss (x n .point) -ᵍ a .exact .Q *ᵍ s) (k *ℤ pos n *ℤ a .exact .δ)) share-is
+          (a .exact .rounded)
 
   -- THE ERROR
   pub exp-error : (T : ℕ) → 24 ≤ T → (n : ℕ) → 1 ≤ n → n ≤ M → n ≤ 40 →

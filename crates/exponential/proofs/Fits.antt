@@ -21,9 +21,9 @@ use Rattle.word.proofs.Shift.{CeilingFits, ceiling-fits}
 use Rattle.table_numbers.specs.Promise.{StepTable}
 use Rattle.table_numbers.proofs.Promises.{StepPromise}
 use Rattle.iteration.specs.declared.Mode.the-variants.{Exp}
-use Rattle.iteration.specs.Run.{rounding-share, state, Fits}
+use Rattle.iteration.specs.Run.{state, Fits}
 use Rattle.iteration.proofs.Drift.{exact-start, exact-run, exact-size}
-use Rattle.exponential.specs.Answer.{errorBound}
+use Rattle.exponential.specs.Answer.{rounding-share, errorBound}
 use Rattle.exponential.proofs.Convergence.{Rectangle, below-parts, converges}
 
 -- ---- the run: a start of parts up to 2^58 grows to 1089/280 of it, and the rounding; the exponent stays below one

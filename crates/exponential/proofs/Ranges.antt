@@ -26,9 +26,9 @@ use Rattle.answer.proofs.Tests.{unless-keeps}
 use Rattle.table_numbers.specs.Promise.{StepTable}
 use Rattle.table_numbers.specs.Table.{stepTable}
 use Rattle.iteration.specs.declared.Mode.the-variants.{Exp}
-use Rattle.iteration.specs.Run.{rounding-share, state}
+use Rattle.iteration.specs.Run.{state}
 use Rattle.iteration.proofs.Drift.{exact-start, exact-run, exact-size}
-use Rattle.exponential.specs.Answer.{inRectangle, figures, answer, errorBound, expAnswer}
+use Rattle.exponential.specs.Answer.{inRectangle, rounding-share, figures, answer, errorBound, expAnswer}
 use Rattle.exponential.proofs.Bound.{bound-enough, bound-least}
 
 -- at F = 48: N from 1 to 40, each part of the value at most 2^60 in size, and an error bound from 0 to 2^60 + 120

@@ -18,7 +18,7 @@ use Rattle.table_numbers.specs.Promise.{StepTable}
 use Rattle.table_numbers.specs.Table.{stepTable}
 use Rattle.iteration.specs.declared.State.{State}
 use Rattle.iteration.specs.declared.Mode.the-variants.{Exp}
-use Rattle.iteration.specs.Run.{rounding-share, state, run}
+use Rattle.iteration.specs.Run.{state, run}
 
 -- ---- the limits, all ends included (one is 2^F units; 01 has F = 48): "N is 1 to 40" is inSteps F 1, and "Each start part is at most 2^58
 -- in size" is inParts F (point, Limits)
@@ -27,6 +27,10 @@ unfoldable pub inRectangle : ℕ → 𝔾 → Bool
 inRectangle F e = inBox (negℤ (pos 53 *ℤ two (F - 6))) (pos 55 *ℤ two (F - 6)) (negℤ (pos 47 *ℤ two (F - 6))) (pos 47 *ℤ two (F - 6)) e
 
 -- ---- the error bound, the "column" of 01: "8M/2^N rounded up to a whole number, plus 3N, M being the start's larger part in size"
+-- the 3 of "plus 3N": what the rounding of a step puts into it, in units
+abbrev pub rounding-share : ℤ
+rounding-share = pos 3
+
 unfoldable pub errorBound : ℕ → 𝔾 → ℤ
 errorBound n s = ceiling (pos 8 *ℤ larger s) (2 ^ n) +ℤ rounding-share *ℤ pos n
 

@@ -32,7 +32,7 @@ use Rattle.table_numbers.proofs.EntrySize.{entry-short}
 use Rattle.table_numbers.proofs.Promises.{StepPromise}
 use Rattle.iteration.specs.declared.State.{State}
 use Rattle.iteration.specs.declared.Mode.{Mode}
-use Rattle.iteration.specs.Run.{rounding-share, state, select, next, moved, run}
+use Rattle.iteration.specs.Run.{state, select, next, moved, run}
 use Rattle.iteration.proofs.Digits.{select-digit}
 use Rattle.iteration.proofs.Runs.{run-keeps}
 use Rattle.iteration.proofs.Factor.{factor-most, product-most, rounding, longer, tables}
@@ -49,6 +49,10 @@ pub short-next : (F n : ℕ) (r : ℤ) {d s z : 𝔾} → suc n + 8 ≤ F → Is
 short-next F n r fits dig entry short = within-weaken (within-sub short (entry-short F n fits dig entry))
     (lin (r ∷ two (F - 2 - n) ∷ two (F - 2 - suc n) ∷ []) (two-halve (F - 2) n (omega arith) &≡ none) (search reify depth 20) tt)
 
+-- what the rounding of a step adds to the point's error, in units of length
+abbrev pub drift-a-step : ℤ
+drift-a-step = pos 3
+
 -- ---- the room that the rounding's share of a step leaves for the growth of the old error (also for the share 2, with half-units 1)
 three-n : (n : ℕ) → 3 * n ≤ 2 ^ suc n
 three-n zero = omega arith
@@ -56,7 +60,7 @@ three-n (suc zero) = omega arith
 three-n (suc (suc n)) = omega (arith, three-n (suc n), pow-succ' 2 (suc (suc n)), pow-succ' 2 (suc n), pow-succ' 2 n, two-pos n)
 
 growth : (n m : ℤ) → pos 3 *ℤ n ⩽ m → pos 1 ⩽ m →
-    pos 198 *ℤ half-units *ℤ (m *ℤ m) +ℤ pos 140 *ℤ rounding-share *ℤ n *ℤ (pos 2 *ℤ m +ℤ pos 1) ⩽ pos 280 *ℤ rounding-share *ℤ (m *ℤ m)
+    pos 198 *ℤ half-units *ℤ (m *ℤ m) +ℤ pos 140 *ℤ drift-a-step *ℤ n *ℤ (pos 2 *ℤ m +ℤ pos 1) ⩽ pos 280 *ℤ drift-a-step *ℤ (m *ℤ m)
 growth n m h g = lin (n ∷ m ∷ []) (nonneg-mul (sub-nonneg h) (nonneg g) & h & nonneg-mul (sub-nonneg g) (nonneg g) & nonneg-sq m & none)
     (search reify depth 20) tt
 
@@ -70,14 +74,14 @@ digit-size m d m≥0 t = record {
       & nonneg-mul (nonneg-sq m) (sub-nonneg (size-sq (trit-size (t .y)))) & m≥0 & none) (search reify depth 20) tt;
 }
 
--- ---- THE ROUNDING: from the point o on, after step n: o times a fraction Q/δ, the exact product of the factors, but for rounding-share·n
+-- ---- THE ROUNDING: from the point o on, after step n: o times a fraction Q/δ, the exact product of the factors, but for drift-a-step·n
 -- units
 pub record Exact (o : 𝔾) (n : ℕ) (p : 𝔾) : Type 0 where
   pub δ : ℤ
   pub Q : 𝔾
   pub δ≥1 : pos 1 ⩽ δ
   pub length : Within (ιᵍ (pos 4 *ℤ (two n *ℤ two n)) *ᵍ Q) (product-most (two n) *ℤ δ)
-  pub rounded : Within (ιᵍ δ *ᵍ p -ᵍ Q *ᵍ o) (rounding-share *ℤ pos n *ℤ δ)
+  pub rounded : Within (ιᵍ δ *ᵍ p -ᵍ Q *ᵍ o) (drift-a-step *ℤ pos n *ℤ δ)
 
 module _ {o : 𝔾} where
   -- |Q/δ| ≤ 11/4
@@ -109,9 +113,9 @@ module _ {o : 𝔾} where
     length = subst (λ m. Within (ιᵍ (pos 4 *ℤ (m *ℤ m)) *ᵍ ((ιᵍ m +ᵍ d) *ᵍ a .Q)) (product-most m *ℤ (m *ℤ a .δ))) (sym (two-suc n))
         (longer (two n) (a .δ) (ιᵍ (pos 2 *ℤ two n) +ᵍ d) (a .Q) (two≥1 n) δ≥0 (digit-size (pos 2 *ℤ two n) d (nonneg-pos (2 * 2 ^ n)) dig)
         (a .length));
-    rounded = subst (λ k. Within (ιᵍ (m *ℤ a .δ) *ᵍ step (suc n) d p -ᵍ (ιᵍ m +ᵍ d) *ᵍ a .Q *ᵍ o) (rounding-share *ℤ k *ℤ (m *ℤ a .δ)))
+    rounded = subst (λ k. Within (ιᵍ (m *ℤ a .δ) *ᵍ step (suc n) d p -ᵍ (ιᵍ m +ᵍ d) *ᵍ a .Q *ᵍ o) (drift-a-step *ℤ k *ℤ (m *ℤ a .δ)))
         (one-more n)
-        (rounding half-units rounding-share (pos n) m (a .δ) (ιᵍ m +ᵍ d) (a .Q) o p (step (suc n) d p) (two≥1 (suc n)) δ≥0
+        (rounding half-units drift-a-step (pos n) m (a .δ) (ιᵍ m +ᵍ d) (a .Q) o p (step (suc n) d p) (two≥1 (suc n)) δ≥0
         (growth (pos n) m (pos-mono (three-n n)) (two≥1 (suc n))) (digit-size m d (nonneg-pos (2 ^ suc n)) dig) (step-off (suc n) d p)
         (a .rounded));
   }
@@ -124,9 +128,9 @@ module _ {o : 𝔾} where
 
   -- THE POINT's size: the exact product, as a length 11/4 of 99/70 of m, and the rounding
   pub exact-size : {n : ℕ} {p : 𝔾} {m : ℤ} → Exact o n p → Parts o m →
-      Parts (ιᵍ (pos 280) *ᵍ p) (pos 1089 *ℤ m +ℤ pos 280 *ℤ rounding-share *ℤ pos n)
+      Parts (ιᵍ (pos 280) *ᵍ p) (pos 1089 *ℤ m +ℤ pos 280 *ℤ drift-a-step *ℤ pos n)
   exact-size {n} {p} {m} a given = within-parts (within-cancel (a .δ) (a .δ≥1)
-      (subst (λ z. Within z (a .δ *ℤ (pos 1089 *ℤ m +ℤ pos 280 *ℤ rounding-share *ℤ pos n)))
+      (subst (λ z. Within z (a .δ *ℤ (pos 1089 *ℤ m +ℤ pos 280 *ℤ drift-a-step *ℤ pos n)))
       (ring! 𝔾R (ιᵍ (a .δ) ∷ a .Q ∷ o ∷ p ∷ []) (search reifyᵍ depth 20) tt)
       (within-weaken (within-add (within-mul (exact-length a) (parts-within given)) (within-scale (pos 280) (nonneg-pos 280) (a .rounded)))
       (lin (a .δ ∷ m ∷ pos n ∷ []) none (search reify depth 20) tt))))

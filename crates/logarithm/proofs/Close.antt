@@ -1,5 +1,5 @@
 -- What is proved of LOG's answer: its four cases, the ranges of its figures, convergence and remainder, and that it is close.
-use mathlib.Core.Path.{_≡_, sym, _∙_, ap, ap₂, subst}
+use mathlib.Core.Path.{_≡_, sym, _∙_, ap, ap₂, subst, refl}
 use mathlib.Core.Bool.{true, false, not, _&&_}
 use mathlib.Core.List.{[], _∷_}
 use mathlib.Core.Logic.{⊎-elim}
@@ -7,24 +7,27 @@ use Prim.Native.Nat.{ℕ, suc, _+_, _-_, _^_, _≤_}
 use native.Mathlib.Omega.{arith}
 use lib.Dec.{T, lit≤}
 use borrow.Author.Tests.{not-true}
-use lib.IntN.{ℤ, pos, natAbs, _+ℤ_, _-ℤ_, _*ℤ_}
+use lib.IntN.{ℤ, pos, natAbs, _+ℤ_, _-ℤ_, _*ℤ_, negsuc, negℤ, negℤ-negℤ}
 use Rattle.algebra.specs.Gauss.{𝔾, gi, ιᵍ, negᵍ, _-ᵍ_, _*ᵍ_, two, twoᵍ}
 use Rattle.algebra.specs.Order.{_⩽_, _⋖_}
 use Rattle.algebra.specs.Size.{Within, Size, Parts, abs, larger}
+use Rattle.algebra.proofs.Inequality.{below-next, nonneg, one-mul}
 use Rattle.algebra.proofs.Gauss.{𝔾R}
 use Rattle.algebra.proofs.Reify.{ring!, reify, reifyᵍ}
-use Rattle.algebra.proofs.Order.{le-or-gt, pos-mono}
+use Rattle.algebra.proofs.Order.{le-or-gt, pos-mono, ⩽-refl, nonneg-mul, nonneg-pos, sub-nonneg}
 use Rattle.algebra.proofs.Linear.{lin, lin<, _&_, _&≡_, none}
-use Rattle.algebra.proofs.Power.{two≥1, two-mul-le}
+use Rattle.algebra.proofs.Power.{two≥1, two-mul-le, two-pos, two-mono}
 use Rattle.algebra.proofs.Within.{within-mul, within-neg, within-weaken}
-use Rattle.algebra.proofs.Parts.{size-abs, parts-abs, within-parts}
+use Rattle.algebra.proofs.Parts.{size-abs, parts-abs, within-parts, abs-size, abs-scaled, size-neg, size-sign, scaled-re, scaled-im}
 use Rattle.algebra.proofs.Larger.{larger-parts, larger-le}
 use Rattle.word.specs.Compare.{between}
 use Rattle.word.proofs.Compare.{is-between}
-use Rattle.series.specs.Series.{Dᶻ}
+use Rattle.series.specs.Series.{Dᶻ, Sᵍ}
+use Rattle.series.proofs.Series.{D-pos}
 use Rattle.point.specs.Limits.{inSteps, inBox, inParts}
 use Rattle.point.specs.Point.{gauss}
 use Rattle.point.proofs.InLimits.{Counts, steps-say, parts-say}
+use Rattle.answer.specs.declared.Figures.{Figures}
 use Rattle.answer.specs.declared.Refusal.the-variants.{Steps, Part, Zero}
 use Rattle.answer.specs.declared.Answer.{Answer}
 use Rattle.answer.specs.declared.Answer.the-variants.{Answered, Refused}
@@ -32,11 +35,11 @@ use Rattle.answer.proofs.Tests.{unless-keeps}
 use Rattle.table_numbers.specs.Promise.{StepTable, ReciprocalTable}
 use Rattle.table_numbers.specs.Table.{stepTable, reciprocalTable}
 use Rattle.table_numbers.proofs.Promises.{StepPromise, ReciprocalPromise}
-use Rattle.table_numbers.proofs.Promise48.{step-promise, reciprocal-promise}
+use Rattle.tables.proofs.Promises.{step-promise, reciprocal-promise}
 use Rattle.iteration.specs.Select.{half}
 use Rattle.iteration.proofs.Drift.{Short}
 use Rattle.logarithm.specs.Reduction.{quadrant, turned, bit-length, binary-exponent, scaled, reduced}
-use Rattle.logarithm.specs.Answer.{i^, power, begun, ended, isZero, figures, answer, logAnswer, miss, CloseAt, Close}
+use Rattle.logarithm.specs.Answer.{i^, power, begun, ended, isZero, figures, answer, logAnswer, miss, CloseAt, Close, two-to}
 use Rattle.logarithm.specs.Code.{Cone, Accepted}
 use Rattle.logarithm.proofs.Quadrant.{point-is, within-i, cone-pos, turned-cone, turned-re}
 use Rattle.logarithm.proofs.Scale.{length-pos, length-le, scaled-ranges, power-is}
@@ -168,6 +171,49 @@ module _ (F : ℕ) (wide : 11 ≤ F) {n : ℤ} {p : 𝔾} (a : Accepted F n p) w
                 (within-weaken (within-neg (within-mul (within-i p)
                 (turned-error F narrow (F - 8) steps logs entries reciprocals T enough N (count .at-least) fits (count .at-most) w cone)))
                 (lin (w .re ∷ larger p ∷ P ∷ []) (ap (λ x. x *ℤ P) M-is &≡ none) (search reify depth 20) tt)))
+
+-- ---- no answer is close whose k is below −F, where there is no 2^(F+k): nought is further off the point than 3M/2^N
+-- each part of P·p, of which m is the opposite
+opposite-re : (P : ℤ) (p : 𝔾) {m : 𝔾} → m ≡ negᵍ (ιᵍ P *ᵍ p) → Size (P *ℤ p .re) (abs (m .re))
+unfolding negᵍ
+opposite-re P p {m} e = subst (λ t. Size t (abs (m .re))) (ap (λ z. negℤ (z .re)) e ∙ negℤ-negℤ _ ∙ scaled-re P p)
+    (size-neg (abs-size (⩽-refl (abs (m .re)))))
+
+opposite-im : (P : ℤ) (p : 𝔾) {m : 𝔾} → m ≡ negᵍ (ιᵍ P *ᵍ p) → Size (P *ℤ p .im) (abs (m .im))
+unfolding negᵍ
+opposite-im P p {m} e = subst (λ t. Size t (abs (m .im))) (ap (λ z. negℤ (z .im)) e ∙ negℤ-negℤ _ ∙ scaled-im P p)
+    (size-neg (abs-size (⩽-refl (abs (m .im)))))
+
+pub close-whole : {F N T : ℕ} (p : 𝔾) (f : Figures) → 2 ≤ N → pos 1 ⩽ larger p → CloseAt F N T p f →
+    pos 0 ⩽ pos F +ℤ f .«binary_exponent»
+close-whole {F} {N} {T} p f many M≥1 close = go (pos F +ℤ f .«binary_exponent») refl
+  where
+    P : ℤ
+    P = Dᶻ (2 ^ F) T
+
+    P≥1 : pos 1 ⩽ P
+    P≥1 = pos-mono (D-pos (2 ^ F) (two-pos F) T)
+
+    smaller : (x : ℤ) {a : ℤ} → Size (P *ℤ x) a → a *ℤ two N ⩽ pos 3 *ℤ larger p *ℤ P → Size x (larger p -ℤ pos 1)
+    smaller x {a} h g = abs-size (below-next (pos 4 *ℤ P) (one-mul {a = pos 4} (record { le = tt }) P≥1)
+        (lin (abs x ∷ a ∷ P ∷ larger p ∷ two N ∷ [])
+        (abs-scaled P x h & g & nonneg-mul (size-sign h) (sub-nonneg (two-mono 2 N many)) & nonneg-mul (sub-nonneg M≥1) (nonneg P≥1) & P≥1
+        & none)
+        (search reify depth 20) tt))
+
+    go : (b : ℤ) → pos F +ℤ f .«binary_exponent» ≡ b → pos 0 ⩽ b
+    go (pos b) e = nonneg-pos b
+    go (negsuc b) e = absurd (less-than-itself .le)
+      where
+        nothing : miss F T p f ≡ negᵍ (ιᵍ P *ᵍ p)
+        nothing = ap (λ h. ιᵍ (two-to h) *ᵍ i^ (f .quadrant) *ᵍ Sᵍ (2 ^ F) T (gauss (f .value)) -ᵍ p *ᵍ ιᵍ P) e
+            ∙ ring! 𝔾R (i^ (f .quadrant) ∷ Sᵍ (2 ^ F) T (gauss (f .value)) ∷ p ∷ ιᵍ P ∷ []) (search reifyᵍ depth 20) tt
+
+        less-than-itself : pos 1 ⩽ pos 0
+        less-than-itself = lin (larger p ∷ []) (larger-le (record {
+          re = smaller (p .re) (opposite-re P p nothing) (close .re);
+          im = smaller (p .im) (opposite-im P p nothing) (close .im);
+        }) & none) (search reify depth 20) tt
 
 -- ---- at the width 48: THE ANSWER IS CLOSE, for all inputs
 pub log-close : (n x y : ℤ) → Close n x y (logAnswer n x y)

@@ -28,7 +28,7 @@ use Rattle.answer.proofs.Tests.{unless-keeps}
 use Rattle.table_numbers.specs.Promise.{StepTable, ReciprocalTable}
 use Rattle.table_numbers.specs.Table.{stepTable, reciprocalTable}
 use Rattle.table_numbers.proofs.Promises.{StepPromise, ReciprocalPromise}
-use Rattle.table_numbers.proofs.Promise48.{step-promise, reciprocal-promise}
+use Rattle.tables.proofs.Promises.{step-promise, reciprocal-promise}
 use Rattle.logarithm.specs.Reduction.{spelling, quadrant}
 use Rattle.logarithm.specs.Answer.{isZero, figures, answer, errorBound, logAnswer}
 use Rattle.logarithm.specs.Code.{Accepted}

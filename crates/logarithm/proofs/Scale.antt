@@ -1,5 +1,5 @@
 -- The scale (01, LOG): "the one k with 2^(47+k) ≤ wx < 2^(48+k)", what scaling loses, and where the scaled point lies.
-use mathlib.Core.Path.{_≡_, refl, sym, _∙_, ap, subst}
+use mathlib.Core.Path.{_≡_, sym, _∙_, ap, subst}
 use mathlib.Core.List.{[], _∷_}
 use mathlib.Core.Bool.{Bool, true, false, not}
 use mathlib.Core.Logic.{⊎-elim}
@@ -22,7 +22,7 @@ use Rattle.algebra.proofs.Inequality.{below-next}
 use Rattle.algebra.proofs.Power.{two-pos, two≥1, two-suc, two-split, two-reflects, below-two, le-or-lt}
 use Rattle.algebra.proofs.Floor.{floor-lo, floor-hi, floor-one}
 use Rattle.algebra.proofs.Parts.{parts-floor}
-use Rattle.logarithm.specs.Answer.{power}
+use Rattle.logarithm.specs.Answer.{two-to, power}
 use Rattle.logarithm.specs.Reduction.{bits-from, bits, bit-length, binary-exponent, up, down, scaled}
 use Rattle.logarithm.specs.Code.{Cone}
 use Rattle.logarithm.proofs.Quadrant.{cone-pos}
@@ -103,30 +103,29 @@ unfolding binary-exponent
 exponent-length F w = ring! ℤR (pos F ∷ pos (bit-length w) ∷ []) (search reify depth 20) tt
 
 pub power-is : (F : ℕ) (w : 𝔾) → power F (binary-exponent F w) ≡ two (bit-length w)
-power-is F w = ap (λ b. two (natAbs b)) (exponent-length F w)
+power-is F w = ap two-to (exponent-length F w)
 
 pub record Exponent (F : ℕ) (x k : ℤ) : Type 0 where
-  pub whole : pos 0 ⩽ pos F +ℤ k
   pub above : x +ℤ pos 1 ⩽ power F k
   pub half : power F k ⩽ pos 2 *ℤ x
 
 pub exponent-law : (F : ℕ) (w : 𝔾) → Cone w → Exponent F (w .re) (binary-exponent F w)
 exponent-law F w c = let h = length-law w (cone-pos c) in record {
-  whole = subst (λ b. pos 0 ⩽ b) (sym (exponent-length F w)) (pos-mono zero-le);
   above = subst (λ b. w .re +ℤ pos 1 ⩽ b) (sym (power-is F w)) (h .above);
   half = subst (λ b. b ⩽ pos 2 *ℤ w .re) (sym (power-is F w)) (h .half);
 }
 
 pub exponent-unique : (F : ℕ) (w : 𝔾) (k : ℤ) → Cone w → Exponent F (w .re) k → binary-exponent F w ≡ k
 unfolding binary-exponent
-exponent-unique F w k c e = ap (λ b. b -ℤ pos F)
-    (ap pos (length-unique w (natAbs (pos F +ℤ k)) (cone-pos c) (record { above = e .above; half = e .half }))
-    ∙ back (pos F +ℤ k) (e .whole))
+exponent-unique F w k c e = ap (λ b. b -ℤ pos F) (length-is (pos F +ℤ k) (e .above) (e .half))
     ∙ ring! ℤR (pos F ∷ k ∷ []) (search reify depth 20) tt
   where
-    back : (b : ℤ) → pos 0 ⩽ b → pos (natAbs b) ≡ b
-    back (pos n) h = refl
-    back (negsuc n) h = absurd (h .le)
+    length-is : (b : ℤ) → w .re +ℤ pos 1 ⩽ two-to b → two-to b ⩽ pos 2 *ℤ w .re → pos (bit-length w) ≡ b
+    length-is (pos n) above half = ap pos (length-unique w n (cone-pos c) (record { above = above; half = half }))
+    length-is (negsuc n) above half = absurd (no-power above .le)
+      where
+        no-power : w .re +ℤ pos 1 ⩽ pos 0 → pos 2 ⩽ pos 0
+        no-power h = lin (w .re ∷ []) (cone-pos c & h & none) (search reify depth 20) tt
 
 -- ---- 2^−k · 2^(F+k) = 2^F, whichever the sign of k
 nothing-left : (m n : ℕ) → m ≤ n → m - n ≡ 0

@@ -13,7 +13,7 @@ use Rattle.algebra.proofs.Linear.{lin, _&_, _&≡_, none}
 use Rattle.algebra.proofs.Within.{within-add, within-sub, within-mul, within-weaken, within-scale, within-cancel}
 use Rattle.algebra.proofs.Parts.{parts-within, within-far}
 use Rattle.algebra.proofs.Inequality.{nonneg, one-mul}
-use Rattle.iteration.specs.Run.{rounding-share}
+use Rattle.iteration.proofs.Drift.{drift-a-step}
 
 -- ---- U units to one, Z = 2^N, n = N, t a quarter of U/2^N; up and down scale by 2^−k, B = U · 2^k; x is M
 module _ (U Z t n up down B δ P x : ℤ) (w w′ v Q g : 𝔾)
@@ -24,7 +24,7 @@ module _ (U Z t n up down B δ P x : ℤ) (w w′ v Q g : 𝔾)
     (scale : Parts (ιᵍ up *ᵍ w -ᵍ ιᵍ down *ᵍ w′) down)
     (rest : Parts (v -ᵍ ιᵍ U) (pos 3 *ℤ t))
     (length : Within (ιᵍ (pos 4) *ᵍ Q) (pos 11 *ℤ δ))
-    (rounded : Within (ιᵍ δ *ᵍ v -ᵍ Q *ᵍ w′) (rounding-share *ℤ n *ℤ δ))
+    (rounded : Within (ιᵍ δ *ᵍ v -ᵍ Q *ᵍ w′) (drift-a-step *ℤ n *ℤ δ))
     (tabled : Within (ιᵍ (pos 128 *ℤ Z) *ᵍ (Q *ᵍ g -ᵍ ιᵍ δ *ᵍ ιᵍ P)) (n *ℤ (δ *ℤ P))) where
   t≥0 : pos 0 ⩽ t
   t≥0 = lin (t ∷ []) (t≥64 & none) (search reify depth 20) tt

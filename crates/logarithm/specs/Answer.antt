@@ -59,9 +59,14 @@ unfoldable pub logAnswer : ℤ → ℤ → ℤ → Answer
 logAnswer n x y = answer 48 stepTable reciprocalTable n (gi x y)
 
 -- ---- what demand 3 compares, at T terms: the exponential is S T/D T, and both sides are multiplied by the divisors 2^N and D T
+-- 2^n; there is none for n below 0, where no answer can be close
+abbrev pub two-to : ℤ → ℤ
+two-to (pos n) = two n
+two-to (negsuc n) = pos 0
+
 -- 2^(F+k)
 abbrev pub power : ℕ → ℤ → ℤ
-power F k = two (natAbs (pos F +ℤ k))
+power F k = two-to (pos F +ℤ k)
 
 -- i^q, q of either sign
 unfoldable pub i^ : ℤ → 𝔾

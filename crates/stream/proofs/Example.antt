@@ -12,8 +12,8 @@ use Rattle.point.specs.declared.Point.{Point}
 use Rattle.point.specs.Limits.{inSteps, inBox, inParts}
 use Rattle.answer.specs.Record.{recordOf}
 use Rattle.exponential.specs.Answer.{answer, expAnswer}
-use Rattle.exponential.proofs.Cases.{kernel-one}
 use Rattle.logarithm.specs.Answer.{isZero, answer as log-answer, logAnswer}
+use Rattle.edges.proofs.Quoted.{kernel-one}
 use Rattle.text.specs.declared.Line.the-variants.{Exp, Log}
 use Rattle.text.specs.Line.{EXP, REF, kindLine, lineOf, readLine}
 use Rattle.text.specs.Answer.{replyOf, reply}

@@ -65,13 +65,3 @@ countFor a out = cond (ltb (length out) answer-room) 0 (length (a .bytes))
 
 abbrev pub outFor : Reply → List ℕ → List ℕ
 outFor a out = cond (ltb (length out) answer-room) out (a .bytes ++ drop (length (a .bytes)) out)
-
--- the same for the bytes of a line
-abbrev pub refusalOf : List ℕ → List ℕ → ℤ
-refusalOf l out = refusalFor (reply l) out
-
-abbrev pub countOf : List ℕ → List ℕ → ℕ
-countOf l out = countFor (reply l) out
-
-abbrev pub outOf : List ℕ → List ℕ → List ℕ
-outOf l out = outFor (reply l) out

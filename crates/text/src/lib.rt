@@ -5,7 +5,7 @@ ghost use Rattle.buffer.specs.Fields.{fieldsAt};
 ghost use Rattle.buffer.specs.Numbers.{numbers};
 ghost use Rattle.answer.specs.Record.{recordOf};
 ghost use Rattle.text.specs.Line.{formed, expOf, logOf, kindLine, readLine};
-ghost use Rattle.text.specs.Answer.{refusedReply, answerReply, replyOf, refusalFor, countFor, outFor, refusalOf, countOf, outOf};
+ghost use Rattle.text.specs.Answer.{refusedReply, answerReply, replyOf, reply, refusalFor, countFor, outFor};
 ghost use Rattle.text.specs.Code.{Replied};
 use answer::Answer;
 use answer::Figures;
@@ -202,9 +202,9 @@ pub fn reply(line: Line, out: &mut [u8]) -> LineAnswer
 
 // THE CALL: the answer to a line, which comes without its newline.
 pub fn answer_line(line: &[u8], out: &mut [u8]) -> LineAnswer
-    ensures refusal { λ r. ⌜ r .refusal ≡ refusalOf (now (line .entry)) (now (out .entry)) ⌝ }
-    ensures count { λ r. ⌜ r .written ≡ countOf (now (line .entry)) (now (out .entry)) ⌝ }
-    ensures bytes { λ r. ⌜ now (out .exit) ≡ outOf (now (line .entry)) (now (out .entry)) ⌝ }
+    ensures refusal { λ r. ⌜ r .refusal ≡ refusalFor (reply (now (line .entry))) (now (out .entry)) ⌝ }
+    ensures count { λ r. ⌜ r .written ≡ countFor (reply (now (line .entry))) (now (out .entry)) ⌝ }
+    ensures bytes { λ r. ⌜ now (out .exit) ≡ outFor (reply (now (line .entry))) (now (out .entry)) ⌝ }
 {
     reply(read_line(line), out)
 }

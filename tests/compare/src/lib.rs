@@ -1,4 +1,6 @@
-//! The product's C calls, wrapped.
+//! The product's C calls, wrapped, and its program.
+
+pub mod program;
 
 use reference::answer::{write_record, Answer, RECORD_BYTES};
 use reference::{exponential, logarithm};
@@ -7,6 +9,8 @@ use reference::{exponential, logarithm};
 extern "C" {
     fn bkm_exp(n: i64, ex: i64, ey: i64, sx: i64, sy: i64, out: *mut u8, len: usize) -> i64;
     fn bkm_log(n: i64, x: i64, y: i64, out: *mut u8, len: usize) -> i64;
+    fn bkm_line(line: *const u8, line_len: usize, out: *mut u8, len: usize) -> usize;
+    fn bkm_step_entry(n: usize, dx: i64, dy: i64, part: usize) -> i64;
 }
 
 // Inlined, so that a test which makes one call links without the other.
@@ -25,6 +29,18 @@ pub fn log(input: logarithm::Input, out: &mut [u8]) -> i64 {
     unsafe { bkm_log(n, x, y, out.as_mut_ptr(), out.len()) }
 }
 
+#[inline]
+pub fn line(line: &[u8], out: &mut [u8]) -> usize {
+    // SAFETY: as above, and the line is only read.
+    unsafe { bkm_line(line.as_ptr(), line.len(), out.as_mut_ptr(), out.len()) }
+}
+
+#[inline]
+pub fn step_entry(n: usize, dx: i64, dy: i64) -> (i64, i64) {
+    // SAFETY: the call takes numbers alone.
+    unsafe { (bkm_step_entry(n, dx, dy, 0), bkm_step_entry(n, dx, dy, 1)) }
+}
+
 /// What a call hands back and writes into 48 bytes.
 pub type Outcome = (i64, [u8; RECORD_BYTES]);
 
@@ -36,6 +52,15 @@ pub fn expected(answer: Answer) -> Outcome {
 pub fn observed(call: impl FnOnce(&mut [u8]) -> i64) -> Outcome {
     let mut out = [0xa5; RECORD_BYTES];
     (call(&mut out), out)
+}
+
+/// The six numbers of a record, the first of which is also handed back.
+pub fn numbers((handed, record): Outcome) -> [i64; 6] {
+    let numbers = std::array::from_fn(|i| {
+        i64::from_le_bytes(record[8 * i..8 * i + 8].try_into().expect("eight bytes"))
+    });
+    assert_eq!(handed, numbers[0]);
+    numbers
 }
 
 /// Lends buffers of every length up to 200, at every alignment, between bytes that must

@@ -1,7 +1,8 @@
 //! EXP of the product against the second implementation.
 
-use compare::{check_buffers, expected, observed};
+use compare::{check_buffers, expected, numbers, observed};
 use reference::exponential::{exp, Input};
+use reference::figure;
 use reference::samples::{exp_input, Random};
 use reference::width::WIDTH_48;
 
@@ -35,27 +36,29 @@ fn buffers() {
     }
 }
 
-/// Figure 1 of 001 as printed: the start after 1 to 8 steps of 0.51 + 0.29i, from one. (The
-/// later rows of the figure were made with other thresholds; `reference` has them.)
+/// Figure 1 of 001: its exponent from one, for every N as the second implementation has it, and
+/// row k + 1 as printed for N = k. (Rows past the ninth were made with other thresholds;
+/// `reference` has them.)
 #[test]
 fn figure_1() {
-    let rows = [
-        ("1.5000000000", "0.0000000000"),
-        ("1.8750000000", "0.3750000000"),
-        ("1.6406250000", "0.3281250000"),
-        ("1.6201171875", "0.4306640625"),
-        ("1.6066589355", "0.4812927246"),
-        ("1.6066589355", "0.4812927246"),
-        ("1.5941069126", "0.4775326252"),
-        ("1.5941069126", "0.4775326252"),
-    ];
-    for (n, (x, y)) in (1..).zip(rows) {
-        let input = Input { n, ex: 143552238122434, ey: 81627743246090, sx: 1 << 48, sy: 0 };
-        let (refusal, record) = observed(|out| compare::exp(input, out));
-        let part = |at: usize| {
-            let units = i64::from_le_bytes(record[at..at + 8].try_into().unwrap());
-            format!("{:.10}", units as f64 / 2f64.powi(48))
-        };
-        assert_eq!((refusal, part(8).as_str(), part(16).as_str()), (0, x, y), "{n} steps");
+    let input = |n| Input {
+        n,
+        ex: figure::EXPONENT.x as i64,
+        ey: figure::EXPONENT.y as i64,
+        sx: 1 << 48,
+        sy: 0,
+    };
+    let mut rows = vec![[1 << 48, 0]];
+    for n in 1..=40 {
+        let seen = observed(|out| compare::exp(input(n), out));
+        assert_eq!(seen, expected(exp(input(n), WIDTH_48)), "{n} steps");
+        let [refusal, x, y, ..] = numbers(seen);
+        assert_eq!(refusal, 0);
+        rows.push([x, y]);
+    }
+    for (k, printed) in figure::rows_of_01() {
+        let [x, y] = rows[k - 1].map(i128::from);
+        let seen = [figure::like(printed[0], x), figure::like(printed[1], y)];
+        assert_eq!(seen, printed[..2], "row {k}");
     }
 }

@@ -1,53 +1,8 @@
-//! The program on whole sheets against the second implementation. BKM_PROGRAM names it;
-//! without that it is `target/bin/bkm` of the repository.
+//! The program on whole sheets against the second implementation.
 
+use compare::program::check;
 use reference::samples::{line, Random};
-use reference::sheet::answer_sheet;
 use reference::width::WIDTH_48;
-use std::env;
-use std::io::Write;
-use std::path::PathBuf;
-use std::process::{Command, Stdio};
-use std::thread;
-use std::time::Duration;
-
-/// What the program writes for the pieces of its input, each written when the one before has
-/// had time to be read.
-fn run(pieces: &[&[u8]]) -> Vec<u8> {
-    let program = env::var_os("BKM_PROGRAM").map_or_else(
-        || PathBuf::from(concat!(env!("CARGO_MANIFEST_DIR"), "/../../target/bin/bkm")),
-        PathBuf::from,
-    );
-    let mut child = Command::new(&program)
-        .stdin(Stdio::piped())
-        .stdout(Stdio::piped())
-        .spawn()
-        .unwrap_or_else(|error| panic!("{}: {error}", program.display()));
-    let mut stdin = child.stdin.take().unwrap();
-    // Written beside the reading: both pipes are short.
-    let output = thread::scope(|scope| {
-        scope.spawn(move || {
-            for (i, piece) in pieces.iter().enumerate() {
-                if i > 0 {
-                    thread::sleep(Duration::from_millis(2));
-                }
-                stdin.write_all(piece).unwrap();
-            }
-        });
-        child.wait_with_output().unwrap()
-    });
-    assert!(output.status.success());
-    output.stdout
-}
-
-fn check(pieces: &[&[u8]]) {
-    let (seen, wanted) = (run(pieces), answer_sheet(&pieces.concat(), WIDTH_48));
-    let lines = |bytes: &[u8]| bytes.split(|&b| b == b'\n').map(<[u8]>::to_vec).collect::<Vec<_>>();
-    for (seen, wanted) in lines(&seen).into_iter().zip(lines(&wanted)) {
-        assert_eq!(String::from_utf8_lossy(&seen), String::from_utf8_lossy(&wanted));
-    }
-    assert_eq!(seen.len(), wanted.len());
-}
 
 #[test]
 fn long_sheet() {
@@ -87,4 +42,22 @@ fn every_split_in_two() {
         let (first, second) = sheet.split_at(at);
         check(&[first, second]);
     }
+}
+
+/// Answers longer than their lines: the program's buffer fills up before its block is read, at
+/// every place of a line.
+#[test]
+fn long_answers_to_short_lines() {
+    let mut random = Random::new(13);
+    let mut sheet = vec![b'\n'; 70_000];
+    for _ in 0..60_000 {
+        match random.between(0, 3) {
+            0 => sheet.extend(b"1\tLOG\t3\t1\t0"),
+            1 => sheet.extend(b"1\tEXP\t1\t0\t0\t1\t0"),
+            2 => sheet.extend(b"1\tLOG\t3\t0\t0"),
+            _ => sheet.extend(vec![b'1'; random.between(0, 9) as usize]),
+        }
+        sheet.push(b'\n');
+    }
+    check(&[&sheet]);
 }

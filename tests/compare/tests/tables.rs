@@ -5,11 +5,16 @@ use reference::tables::{cell_xs, cell_ys, reciprocal, tables};
 use reference::width::WIDTH_48;
 use std::fs;
 
-/// The entries that a source file of `crates/` writes out, in their order: each `re: A` and the
-/// `im: B` behind it.
+/// The entries that a source file of this name in a crate writes out, in their order: each
+/// `re: A` and the `im: B` behind it.
 fn entries(file: &str) -> Vec<Point> {
-    let path = format!("{}/../../crates/{file}", env!("CARGO_MANIFEST_DIR"));
-    let text = fs::read_to_string(&path).unwrap_or_else(|error| panic!("{path}: {error}"));
+    let crates = concat!(env!("CARGO_MANIFEST_DIR"), "/../../crates");
+    let places =
+        fs::read_dir(crates).unwrap().map(|found| found.unwrap().path().join("src").join(file));
+    let [path] = &places.filter(|path| path.exists()).collect::<Vec<_>>()[..] else {
+        panic!("not one {file} in {crates}");
+    };
+    let text = fs::read_to_string(path).unwrap();
     let numbers = |name: &str| -> Vec<i128> {
         text.split(&format!("{name}: "))
             .skip(1)
@@ -34,7 +39,24 @@ fn step_table() {
             }
         }
     }
-    assert_eq!(entries("step_table/src/rows48.rt"), wanted);
+    assert_eq!(entries("rows48.rt"), wanted);
+}
+
+/// The same read by the product through the array of the step table, and nought outside.
+#[test]
+fn step_array() {
+    for n in 0..=45 {
+        for dx in -2..=2i128 {
+            for dy in -2..=2i128 {
+                let inside = (1..=40).contains(&n) && dx.abs() < 2 && dy.abs() < 2;
+                let wanted =
+                    if inside { tables(WIDTH_48).step(n, point(dx, dy)) } else { point(0, 0) };
+                let (x, y) = compare::step_entry(n as usize, dx as i64, dy as i64);
+                assert_eq!(point(x.into(), y.into()), wanted, "{n} {dx} {dy}");
+            }
+        }
+    }
+    assert_eq!(compare::step_entry(usize::MAX, i64::MIN, i64::MAX), (0, 0));
 }
 
 /// The entries by columns of cells, and what stands outside.
@@ -48,13 +70,13 @@ fn cells(entry: impl Fn(i128, i128) -> Point) -> Vec<Point> {
 
 #[test]
 fn reciprocals() {
-    assert_eq!(entries("reciprocal_table/src/reciprocals.rt"), cells(reciprocal));
+    assert_eq!(entries("reciprocals.rt"), cells(reciprocal));
 }
 
 #[test]
 fn reciprocal_logs() {
     assert_eq!(
-        entries("reciprocal_table/src/reciprocal_logs48.rt"),
+        entries("reciprocal_logs48.rt"),
         cells(|x, y| tables(WIDTH_48).reciprocal_log(x, y))
     );
 }

@@ -4,7 +4,10 @@
 
 pub mod answer;
 pub mod closeness;
+pub mod damage;
+pub mod edges;
 pub mod exponential;
+pub mod figure;
 pub mod fixed;
 pub mod logarithm;
 pub mod point;

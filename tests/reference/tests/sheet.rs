@@ -1,6 +1,7 @@
 //! Sheets: what is a line, what is a number, and every byte of the answer.
 
 use reference::answer::record;
+use reference::damage::{self, tabs, MALFORMED, REFUSED};
 use reference::exponential::exp;
 use reference::logarithm::log;
 use reference::samples::{self, Random};
@@ -9,55 +10,13 @@ use reference::sheet::{
 };
 use reference::width::WIDTH_48 as W;
 
-fn tabs(text: &str) -> Vec<u8> {
-    text.replace('|', "\t").into_bytes()
-}
-
 fn answer(line: &str) -> String {
     String::from_utf8(answer_line(&tabs(line), W).1).unwrap().replace('\t', "|")
 }
 
 #[test]
 fn malformed_lines() {
-    let lines = [
-        "",
-        " ",
-        "|",
-        "1",
-        "1|EXP",
-        "0|LOG|40|1|0",
-        "10000000|LOG|40|1|0",
-        "-1|LOG|40|1|0",
-        "01|LOG|40|1|0",
-        "+1|LOG|40|1|0",
-        "1|log|40|1|0",
-        "1|LOGS|40|1|0",
-        "1|REF|4",
-        "1|LOG|40|1",
-        "1|LOG|40|1|0|",
-        "1|LOG|40|1|0|0",
-        "1|LOG|40||0",
-        "1|LOG||1|0",
-        "1|LOG|40|-0|0",
-        "1|LOG|40|00|0",
-        "1|LOG|40|01|0",
-        "1|LOG|40|-01|0",
-        "1|LOG|40|+1|0",
-        "1|LOG|40|-|0",
-        "1|LOG|40|--1|0",
-        "1|LOG|40|1.0|0",
-        "1|LOG|40|1 |0",
-        "1|LOG|40|1|0\r",
-        "1|LOG|40|9223372036854775808|0",
-        "1|LOG|40|-9223372036854775809|0",
-        "1||LOG|40|1|0",
-        "1|EXP|40|0|0|1",
-        "1|EXP|40|0|0|1|0|0",
-        "1|LOG|040|1|0",
-        "|1|LOG|40|1|0",
-        "1|LOG|40|1|0\n",
-    ];
-    for line in lines {
+    for line in MALFORMED.into_iter().chain(["1|LOG|40|1|0\n"]) {
         assert_eq!(answer(line), "0|REF|5\n", "{line:?}");
     }
     assert_eq!(answer_line(b"1\tLOG\t40\t\xff\t0", W), (5, tabs("0|REF|5\n")));
@@ -66,15 +25,8 @@ fn malformed_lines() {
 
 #[test]
 fn well_formed_but_refused() {
-    for (line, wanted) in [
-        ("1|EXP|-5|0|0|0|0", "1|REF|1\n"),
-        ("9999999|LOG|9223372036854775807|0|0", "9999999|REF|1\n"),
-        ("7|EXP|40|-9223372036854775808|0|0|0", "7|REF|2\n"),
-        ("7|EXP|40|0|0|0|-9223372036854775808", "7|REF|3\n"),
-        ("7|LOG|40|9223372036854775807|0", "7|REF|3\n"),
-        ("7|LOG|3|0|0", "7|REF|4\n"),
-    ] {
-        assert_eq!(answer(line), wanted);
+    for (line, wanted) in REFUSED {
+        assert_eq!(answer(line), format!("{wanted}\n"));
     }
 }
 
@@ -95,8 +47,7 @@ fn ends_of_lines() {
 
 #[test]
 fn longest_line() {
-    let least = i64::MIN;
-    let line = tabs(&format!("9999999|EXP|{least}|{least}|{least}|{least}|{least}"));
+    let line = damage::longest_line();
     assert_eq!(line.len(), 116);
     assert_eq!(answer_line(&line, W), (1, tabs("9999999|REF|1\n")));
 }

@@ -72,24 +72,32 @@ part-feed-end c = omega arith
 feed-requires : tie.Need-feed-requires Inv-loop μ-loop
 feed-requires c κs = search needs
 
-slice-reshare-prefix-write-all : tie.Need-slice-reshare-prefix-write-all Inv-loop μ-loop
-slice-reshare-prefix-write-all c = room (c .before .before)
+slice-reshare-prefix-write-out : tie.Need-slice-reshare-prefix-write-out Inv-loop μ-loop
+slice-reshare-prefix-write-out c = room (c .before .before .before)
 
-slice-aggregate-write-all : tie.Need-slice-aggregate-write-all Inv-loop μ-loop
-slice-aggregate-write-all c = sym (length-take-le _ _ (room (c .before .before .before)))
+slice-aggregate-write-out : tie.Need-slice-aggregate-write-out Inv-loop μ-loop
+slice-aggregate-write-out c = sym (length-take-le _ _ (room (c .before .before .before .before)))
 
-write-all-requires : tie.Need-write-all-requires Inv-loop μ-loop
-write-all-requires c κs = search needs
+write-out-requires : tie.Need-write-out-requires Inv-loop μ-loop
+write-out-requires c κs = search needs
 
+-- after a write that failed
+same-length : tie.Need-same-length Inv-loop μ-loop
+same-length c = let f = c .before .before .before .before .before .before in f .feed .kept .1 .1 .0 ∙ head f .loop .inv .1
+
+returns : tie.Need-returns Inv-loop μ-loop
+returns c w = search needs
+
+-- after one that did not
 add-at : tie.Need-add-at Inv-loop μ-loop
-add-at c = omega (arith, most (c .before .before .before .before .before .before))
+add-at c = omega (arith, most (c .before .before .before .before .before .before .before))
 
 loop-less : tie.Need-loop-less Inv-loop μ-loop
-loop-less c = let f = c .before .before .before .before .before .before in omega (arith, some f, most f)
+loop-less c = let f = c .before .before .before .before .before .before .before in omega (arith, some f, most f)
 
 loop-again : tie.Need-loop-again Inv-loop μ-loop
 loop-again c =
-    let f = c .before .before .before .before .before .before in
+    let f = c .before .before .before .before .before .before .before in
     let l = head f in
     let p = placeOf (l .before .before .before .args .place) in
     let more = take (f .feed .result .read) (rest f) in (
@@ -101,11 +109,11 @@ loop-again c =
           ∙ ap (λ (t : List ℕ). cut (placeAfter machine p t)) (sym (take-add (l .loop .at) (f .feed .result .read) (block f))))),
     )
 
-same-length : tie.Need-same-length Inv-loop μ-loop
-same-length c = c .before .loop .inv .1
+same-length-2 : tie.Need-same-length-2 Inv-loop μ-loop
+same-length-2 c = c .before .loop .inv .1
 
-returns : tie.Need-returns Inv-loop μ-loop
-returns c =
+returns-2 : tie.Need-returns-2 Inv-loop μ-loop
+returns-2 c w =
     let l = c .before in
     rw (take-all (l .loop .at) (l .before .before .before .args .block .now) (c .loop-test .left)) at (l .loop .inv .2)
 
@@ -120,11 +128,13 @@ answer-block-spec =
     part-feed-start
     part-feed-end
     feed-requires
-    slice-reshare-prefix-write-all
-    slice-aggregate-write-all
-    write-all-requires
+    slice-reshare-prefix-write-out
+    slice-aggregate-write-out
+    write-out-requires
+    same-length
+    returns
     add-at
     loop-less
     loop-again
-    same-length
-    returns)
+    same-length-2
+    returns-2)

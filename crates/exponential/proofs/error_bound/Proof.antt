@@ -9,7 +9,7 @@ use mir.Val.{toZ, ofZ}
 use borrow.Author.Needs.{needs}
 use Rattle.word.proofs.Fits.{back, word-pos}
 use Rattle.point.specs.Point.{gauss}
-use Rattle.iteration.specs.Run.{rounding-share}
+use Rattle.exponential.specs.Answer.{rounding-share}
 use Rattle.exponential.proofs.Fits.{BoundFits, bound-fits, bound-is}
 use Rattle.exponential.proofs.error_bound.Statement.{statement}
 use Rattle.exponential.proofs.error_bound.Tie as tie

@@ -12,7 +12,7 @@ use Rattle.point.specs.Limits.{inSteps}
 use Rattle.point.proofs.InLimits.{steps-say, steps-cast, parts-say}
 use Rattle.answer.specs.declared.Answer.the-variants.{Answered}
 use Rattle.table_numbers.specs.Table.{stepTable}
-use Rattle.table_numbers.proofs.Promise48.{step-promise}
+use Rattle.tables.proofs.Promises.{step-promise}
 use Rattle.iteration.specs.declared.State.{State}
 use Rattle.exponential.specs.Answer.{inRectangle}
 use Rattle.exponential.proofs.Fits.{run-fits}

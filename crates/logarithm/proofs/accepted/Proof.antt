@@ -11,7 +11,7 @@ use Rattle.word.proofs.Fits.{back, sfits-mag, word-pos}
 use Rattle.point.specs.declared.Point.{Point}
 use Rattle.point.specs.Point.{gauss, point}
 use Rattle.table_numbers.specs.Table.{stepTable, reciprocalTable}
-use Rattle.table_numbers.proofs.Promise48.{step-promise, reciprocal-promise}
+use Rattle.tables.proofs.Promises.{step-promise, reciprocal-promise}
 use Rattle.iteration.specs.declared.State.{State}
 use Rattle.iteration.specs.declared.Mode.the-variants.{Log}
 use Rattle.iteration.specs.Run.{run, Fits}

@@ -1,140 +1,147 @@
-use mathlib.Core.Path.{_≡_, sym}
+-- `buffer::reading::read_natural` meets its contract: 0 alone, or digits up to a tab or the end.
+use mathlib.Core.Path.{_≡_, refl, sym, ap, _∙_}
+use mathlib.Core.Bool.{true}
+use mathlib.Core.Logic.{inl, inr}
 use mathlib.Core.List.{List}
-use Prim.Native.Nat.{ℕ, _≤_, _-_, _+_, _*_, _^_}
-use native.Mathlib.Numerals.{add-one}
+use Prim.Native.Nat.{ℕ, _<_, _+_, _^_}
 use native.Mathlib.Omega.{arith}
-use borrow.Author.Tests.{lt-ltb, le-ltb, le-leb, lt-leb}
-use lib.ListN.{getD}
+use borrow.Author.Needs.{needs}
+use borrow.Author.Tests.{le-leb, lt-leb}
+use lib.ListN.{length}
 use lib.Seq.{slice}
-use Rattle.buffer.specs.Decimal.{upTo, value, readNatural}
-use Rattle.buffer.proofs.Scan.{oneMore, value-more, value-end, big, read-none, read-lead, read-zero, read-digits}
+use Rattle.buffer.specs.declared.reading.Natural.the-variants as nat
+use Rattle.buffer.specs.Decimal.{upTo, readNatural}
+use Rattle.buffer.specs.Find.{findByte}
+use Rattle.buffer.specs.Code.{endsAt, Worth}
+use Rattle.buffer.proofs.Find.{found-none}
+use Rattle.buffer.proofs.Tab.{ends-here, size-none, size-zero, size-lead, worth-ended, worth-broken}
 use Rattle.buffer.proofs.reading.read_natural.Statement.{statement}
 use Rattle.buffer.proofs.reading.read_natural.Tie as tie
 
-abbrev Inv-loop : tie.InvT-loop
-Inv-loop s from to acc₀ i₀ acc i = (from ≤ i) × (i ≤ to) × (upTo (2 ^ 63) (value acc (slice i to s)) ≡ readNatural (slice from to s))
+returns : tie.Need-returns
+returns c =
+    let a = c .before .before .args in
+    size-none (a .s .now) (a .from) (found-none 9 (a .s .now) (a .from) (omega (arith, c .if1 .taken)))
 
-abbrev μ-loop : tie.MeasureT-loop
-μ-loop s from to acc₀ i₀ acc i = to - i
+shared-slice-read-if2 : tie.Need-shared-slice-read-if2
+shared-slice-read-if2 c = search needs
 
--- the turn's fact, with the byte at i taken off the list
-module _ (c : tie.After-shared-slice-known2 Inv-loop μ-loop) where
-  abbrev head : tie.At-loop Inv-loop μ-loop
-  head = c .before .before
+add-ends : tie.Need-add-ends
+add-ends c = search needs
 
-  abbrev start : tie.Start Inv-loop μ-loop
-  start = head .before .before .before .before
+ends-requires : tie.Need-ends-requires
+ends-requires c κs = search needs
+
+add-t16 : tie.Need-add-t16
+add-t16 c = search needs
+
+-- a byte is there
+module _ (c : tie.Else1) where
+  inside : c .before .before .args .from < length (c .before .before .args .s .now)
+  inside = omega arith
+
+returns-2 : tie.Need-returns-2
+returns-2 c =
+    let z = c .before .before in
+    let e = z .before .before in
+    let a = e .before .before .args in
+    size-zero (a .s .now) (a .from) (inside e) (z .if2 .taken) (sym (c .before .ends .ensures) ∙ c .if3 .taken)
+
+returns-3 : tie.Need-returns-3
+returns-3 c =
+    let z = c .before .before in
+    let e = z .before .before in
+    let a = e .before .before .args in
+    size-lead (a .s .now) (a .from) (inside e) (z .if2 .taken) (sym (c .before .ends .ensures) ∙ c .if3 .left)
+
+sub-least : tie.Need-sub-least
+sub-least c = search needs
+
+least-requires : tie.Need-least-requires
+least-requires c κs = search needs
+
+add-to : tie.Need-add-to
+add-to c = search needs
+
+read-digits-requires : tie.Need-read-digits-requires
+read-digits-requires c κs = search needs
+
+ends-requires-2 : tie.Need-ends-requires-2
+ends-requires-2 c κs = search needs
+
+-- the digits, which do not begin with 0
+module _ (c : tie.After-read-digits) where
+  abbrev at : tie.Else1
+  at = c .before .before .before .before
 
   abbrev bytes : List ℕ
-  bytes = start .args .s .now
+  bytes = at .before .before .args .s .now
 
-  turn : upTo (2 ^ 63) (oneMore bytes (head .loop .i) (start .args .to) (head .loop .acc)) ≡ readNatural
-      (slice (start .args .from) (start .args .to) bytes)
-  turn = rw (value-more bytes (head .loop .i) (start .args .to) (head .loop .acc) (c .before .loop-test .taken) (start .pre .1)) at
-      (head .loop .inv .2)
+  abbrev from : ℕ
+  from = at .before .before .args .from
 
-returns : tie.Need-returns Inv-loop μ-loop
-returns c = sym (read-none (c .before .args .s .now) (c .before .args .from) (c .before .args .to) (c .if1 .taken))
+  digits : Worth bytes from (from + c .before .least .result) (c .read-digits .result .value) (c .read-digits .result .end)
+  digits = c .read-digits .ensures
 
-shared-slice-read-if2 : tie.Need-shared-slice-read-if2 Inv-loop μ-loop
-shared-slice-read-if2 c = omega arith
+-- where they end, if the field does
+module _ (c : tie.Then4) where
+  abbrev read : tie.After-read-digits
+  read = c .before .before
 
-add-if3 : tie.Need-add-if3 Inv-loop μ-loop
-add-if3 c = omega arith
+  over : endsAt (bytes read) (read .read-digits .result .end) ≡ true
+  over = sym (c .before .ends2 .ensures) ∙ c .if4 .taken
 
-returns-2 : tie.Need-returns-2 Inv-loop μ-loop
-returns-2 c =
-    let a = c .before .before .before .before in
-    sym (read-lead (a .args .s .now) (a .args .from) (a .args .to) (omega arith) (a .pre .1) (c .before .if2 .taken) (omega arith))
+returns-4 : tie.Need-returns-4
+returns-4 c =
+    let r = read (c .before) in
+    size-none (bytes r) (from r) (sym (digits r .tab) ∙ (ends-here (bytes r) _ (over (c .before)) ∙ c .if5 .taken))
 
-returns-3 : tie.Need-returns-3 Inv-loop μ-loop
-returns-3 c =
-    let a = c .before .before .before .before in
-    sym (read-zero (a .args .s .now) (a .args .from) (a .args .to) (omega arith) (a .pre .1) (c .before .if2 .taken) (omega arith))
+module _ (c : tie.Else5) where
+  abbrev last : tie.After-read-digits
+  last = read (c .before)
 
-loop-holds : tie.Need-loop-holds Inv-loop μ-loop
-loop-holds c =
-    let a = c .before .before .before in
-    (omega arith, omega arith, sym (read-digits (a .args .s .now) (a .args .from) (a .args .to) (omega arith) (a .pre .1) (c .if2 .left)))
+  size : (findByte 9 (bytes last) (from last) ≡ last .read-digits .result .end) ×
+      (readNatural (slice (from last) (findByte 9 (bytes last) (from last)) (bytes last)) ≡ upTo (2 ^ 63)
+      (nat.Is (last .read-digits .result .value)))
+  size = worth-ended (inside (at last)) (last .before .before .if2 .left) (digits last) (over (c .before)) (c .if5 .left)
 
-shared-slice-read-d : tie.Need-shared-slice-read-d Inv-loop μ-loop
-shared-slice-read-d c = omega arith
+returns-5 : tie.Need-returns-5
+returns-5 c =
+    let e = c .before in
+    let v = last e .read-digits .result .value in
+    record { is = sym (size e .1 ∙ rw (le-leb v (2 ^ 63) (c .if6 .taken))); ends = inr (sym (size e .0)) }
 
-returns-4 : tie.Need-returns-4 Inv-loop μ-loop
-returns-4 c = rw (lt-ltb _ _ (c .if4 .taken)) at (turn (c .before))
-
-returns-5 : tie.Need-returns-5 Inv-loop μ-loop
-returns-5 c = rw (le-ltb _ _ (c .before .if4 .left), lt-ltb _ _ (c .if5 .taken)) at (turn (c .before .before))
-
-returns-6 : tie.Need-returns-6 Inv-loop μ-loop
+returns-6 : tie.Need-returns-6
 returns-6 c =
-    let t = c .before .before .before in
-    let more = head t .loop .acc * 10 + (getD (bytes t) (head t .loop .i) 0 - 48) in
-    rw (le-ltb _ _ (c .before .before .if4 .left), le-ltb _ _ (c .before .if5 .left), big (2 ^ 63) more _ (omega arith)) at (turn t)
+    let e = c .before in
+    let v = last e .read-digits .result .value in
+    record { is = sym (size e .1 ∙ rw (lt-leb v (2 ^ 63) (c .if6 .left))); ends = inl refl }
 
-mul-acc : tie.Need-mul-acc Inv-loop μ-loop
-mul-acc c = omega arith
-
-cast-acc : tie.Need-cast-acc Inv-loop μ-loop
-cast-acc c = omega arith
-
-add-acc : tie.Need-add-acc Inv-loop μ-loop
-add-acc c = omega arith
-
-add-i : tie.Need-add-i Inv-loop μ-loop
-add-i c = omega arith
-
-loop-less : tie.Need-loop-less Inv-loop μ-loop
-loop-less c = omega arith
-
-loop-again : tie.Need-loop-again Inv-loop μ-loop
-loop-again c = (
-  omega arith,
-  omega arith,
-  rw add-one (rw (le-ltb _ _ (c .before .before .if4 .left), le-ltb _ _ (c .before .if5 .left)) at (turn (c .before .before .before))),
-)
-
-returns-7 : tie.Need-returns-7 Inv-loop μ-loop
+returns-7 : tie.Need-returns-7
 returns-7 c =
-    let l = c .before .before in
-    let a = l .before .before .before .before in
-    rw (
-      value-end (a .args .s .now) (l .loop .i) (a .args .to) (l .loop .acc) (omega arith),
-      le-leb (l .loop .acc) (2 ^ 63)
-          (omega arith),
-    ) at (l .loop .inv .2)
-
-returns-8 : tie.Need-returns-8 Inv-loop μ-loop
-returns-8 c =
-    let l = c .before .before in
-    let a = l .before .before .before .before in
-    rw (
-      value-end (a .args .s .now) (l .loop .i) (a .args .to) (l .loop .acc) (omega arith),
-      lt-leb (l .loop .acc) (2 ^ 63)
-          (omega arith),
-    ) at (l .loop .inv .2)
+    let r = c .before .before in
+    let n = r .before .before .if2 .left in
+    let t = sym (c .before .ends2 .ensures) ∙ c .if4 .left in
+    let to = ap (λ (k : ℕ). from r + k) (r .before .least .ensures) in
+    record { is = sym (worth-broken (inside (at r)) n (digits r) to t); ends = inl refl }
 
 pub read-natural-spec : {M : Type 1} → statement M
 read-natural-spec =
     tie.close
     (tie.spec
-    Inv-loop
-    μ-loop
     returns
     shared-slice-read-if2
-    add-if3
+    add-ends
+    ends-requires
+    add-t16
     returns-2
     returns-3
-    loop-holds
-    shared-slice-read-d
+    sub-least
+    least-requires
+    add-to
+    read-digits-requires
+    ends-requires-2
     returns-4
     returns-5
     returns-6
-    mul-acc
-    cast-acc
-    add-acc
-    add-i
-    loop-less
-    loop-again
-    returns-7
-    returns-8)
+    returns-7)

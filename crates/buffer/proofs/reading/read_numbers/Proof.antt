@@ -1,14 +1,19 @@
 -- `buffer::reading::read_numbers` meets its contract: a field a turn, and what is read stands in front of what is still to read.
-use mathlib.Core.Path.{_≡_, refl, sym, _∙_}
-use Prim.Native.Nat.{_≤_, _-_}
+use mathlib.Core.Path.{_≡_, refl, sym, ap, _∙_}
+use Prim.Native.Nat.{ℕ, _≤_, _-_}
 use native.Mathlib.Omega.{arith}
 use borrow.Author.Needs.{needs}
+use lib.IntN.{ℤ}
 use lib.ListN.{length, take, length-set}
+use lib.Seq.{slice}
 use Rattle.word.proofs.Fits.{back, sfits-mag}
+use Rattle.buffer.specs.Decimal.{readNumber}
 use Rattle.buffer.specs.Fields.{fieldsAt}
 use Rattle.buffer.specs.Numbers.{numbers}
 use Rattle.buffer.proofs.Find.{Ended, ended}
+use Rattle.buffer.proofs.Tab.{field-end}
 use Rattle.buffer.proofs.Numbers.{behind, none-read, field-missing, not-number, number-stored, all-read, field-left}
+use Rattle.buffer.specs.declared.reading.Number.the-variants as num
 use Rattle.buffer.proofs.reading.read_numbers.Statement.{statement}
 use Rattle.buffer.proofs.reading.read_numbers.Tie as tie
 
@@ -19,11 +24,6 @@ Inv-loop s at into₀ next₀ i₀ into next i =
 
 abbrev μ-loop : tie.MeasureT-loop
 μ-loop s at into₀ next₀ i₀ into next i = length into₀ - i
-
--- where the field ends
-field : (c : tie.After-find-byte Inv-loop μ-loop) → Ended 9 (c .before .before .before .before .before .args .s .now)
-    (c .before .before .before .loop .next) (c .find-byte .result)
-field c = ended (c .before .if1 .left) (c .find-byte .ensures)
 
 loop-holds : tie.Need-loop-holds Inv-loop μ-loop
 loop-holds c = (omega arith, refl, none-read _ _)
@@ -37,14 +37,11 @@ returns c =
     let s = l .before .before in
     sym (l .loop .inv .2) ∙ field-missing _ (l .loop .i) (omega arith) (s .args .s .now) (l .loop .next) _ (c .if1 .taken)
 
-find-byte-requires : tie.Need-find-byte-requires Inv-loop μ-loop
-find-byte-requires c κs = search needs
+read-field-requires : tie.Need-read-field-requires Inv-loop μ-loop
+read-field-requires c κs = search needs
 
-read-number-requires : tie.Need-read-number-requires Inv-loop μ-loop
-read-number-requires c κs = search needs
-
-enum-known-z : tie.Need-enum-known-z Inv-loop μ-loop
-enum-known-z c = search needs
+enum-known-n : tie.Need-enum-known-n Inv-loop μ-loop
+enum-known-n c = search needs
 
 enum-told : tie.Need-enum-told Inv-loop μ-loop
 enum-told c = search needs
@@ -55,12 +52,32 @@ same-length-2 c = search needs
 returns-2 : tie.Need-returns-2 Inv-loop μ-loop
 returns-2 c =
     let r = c .before .before in
-    let f = r .before in
-    let l = f .before .before .before in
+    let l = r .before .before .before in
     let s = l .before .before in
-    sym (l .loop .inv .2) ∙ not-number _ (l .loop .i) (omega arith) (s .args .s .now) (l .loop .next) _ (f .before .if1 .left)
-    (f .find-byte .result) (field f)
-    (sym (r .read-number .ensures) ∙ c .enum-told .given .1)
+    sym (l .loop .inv .2) ∙ not-number _ (l .loop .i) (omega arith) (s .args .s .now) (l .loop .next) _ (r .before .if1 .left) _
+    (ended (r .before .if1 .left) refl)
+    (sym (r .read-field .ensures .is) ∙ c .enum-told .given .1)
+
+-- the turn's number, and where its field ends
+module _ (c : tie.After-n Inv-loop μ-loop) where
+  abbrev read : tie.After-read-field Inv-loop μ-loop
+  read = c .before .before
+
+  abbrev z : ℤ
+  z = c .n .given .0 .0
+
+  field : Ended 9 (read .before .before .before .before .before .args .s .now) (read .before .before .before .loop .next)
+      (read .read-field .result .end)
+  field = ended (read .before .if1 .left) (field-end z (read .read-field .ensures) (c .n .given .1))
+
+  number : readNumber
+      (slice (read .before .before .before .loop .next) (read .read-field .result .end)
+      (read .before .before .before .before .before .args .s .now)) ≡ num.Is z
+  number =
+      let l = read .before .before .before in
+      ap (λ (t : ℕ). readNumber (slice (l .loop .next) t (l .before .before .args .s .now)))
+      (field-end z (read .read-field .ensures) (c .n .given .1))
+      ∙ (sym (read .read-field .ensures .is) ∙ c .n .given .1)
 
 mul-z : tie.Need-mul-z Inv-loop μ-loop
 mul-z c = search needs
@@ -69,7 +86,7 @@ slice-set-from-z : tie.Need-slice-set-from-z Inv-loop μ-loop
 slice-set-from-z c = search needs
 
 add-next : tie.Need-add-next Inv-loop μ-loop
-add-next c = let f = c .before .before .before .before in omega (arith, field f .high)
+add-next c = omega (arith, field (c .before) .high)
 
 add-i : tie.Need-add-i Inv-loop μ-loop
 add-i c = search needs
@@ -80,15 +97,11 @@ loop-less c = search needs
 loop-again : tie.Need-loop-again Inv-loop μ-loop
 loop-again c =
     let k = c .before in
-    let r = k .before .before in
-    let f = r .before in
-    let l = f .before .before .before in
+    let l = read k .before .before .before in
     let s = l .before .before in
-    let z = k .z .given .0 .0 in
-    let read = sym (r .read-number .ensures) ∙ k .z .given .1 in
-    let stored = number-stored (s .args .s .now) (l .loop .into) _ (l .loop .i) (l .loop .next) _ z (omega arith) (l .loop .inv .1)
-    (f .before .if1 .left) (field f) read in
-    (omega arith, simp length-set (l .loop .inv .1), rw (back (sfits-mag z (c .known-told .given .0 .1))) (sym stored ∙ l .loop .inv .2))
+    let stored = number-stored (s .args .s .now) (l .loop .into) _ (l .loop .i) (l .loop .next) _ (z k) (omega arith) (l .loop .inv .1)
+    (read k .before .if1 .left) (field k) (number k) in
+    (omega arith, simp length-set (l .loop .inv .1), rw (back (sfits-mag (z k) (c .known-told .given .0 .1))) (sym stored ∙ l .loop .inv .2))
 
 same-length-3 : tie.Need-same-length-3 Inv-loop μ-loop
 same-length-3 c = search needs
@@ -119,9 +132,8 @@ read-numbers-spec =
     loop-holds
     same-length
     returns
-    find-byte-requires
-    read-number-requires
-    enum-known-z
+    read-field-requires
+    enum-known-n
     enum-told
     same-length-2
     returns-2

@@ -17,7 +17,7 @@ use Rattle.point.specs.Point.{gauss, point}
 use Rattle.table_numbers.specs.Reciprocal.{reciprocal, centre, InTable}
 use Rattle.table_numbers.specs.Table.{reciprocalTable}
 use Rattle.table_numbers.specs.Rows.{number}
-use Rattle.table_numbers.proofs.Promise48.{reciprocal-promise}
+use Rattle.tables.proofs.Promises.{reciprocal-promise}
 use Rattle.logarithm.specs.Reduction.{scaled, column, row, cellX, cellY, reciprocalOf, reduced}
 use Rattle.logarithm.specs.Code.{ReducePre}
 use Rattle.logarithm.proofs.Fits.{in-cell, reduce-ok, log-parts}

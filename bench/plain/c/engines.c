@@ -1,0 +1,103 @@
+/* The engines. Right shifts of negative numbers keep the sign, as every compiler here has it. */
+#include "engines.h"
+#include "tables.h"
+
+#include <string.h>
+
+#define ONE (INT64_C(1) << 48)
+#define MAX_PART (INT64_C(1) << 58)
+
+static struct answer refused(int64_t number) {
+    return (struct answer){.refusal = number};
+}
+
+static int part_is_refused(int64_t part) {
+    return part < -MAX_PART || part > MAX_PART;
+}
+
+/* factor*M/2^n rounded up. */
+static int64_t share(int64_t factor, int64_t x, int64_t y, int64_t n) {
+    int64_t ax = x < 0 ? -x : x, ay = y < 0 ? -y : y, larger = ax < ay ? ay : ax;
+    return (factor * larger + (INT64_C(1) << n) - 1) >> n;
+}
+
+struct answer engine_exp(int64_t n, int64_t ex, int64_t ey, int64_t sx, int64_t sy) {
+    if (n < 1 || n > 40)
+        return refused(1);
+    if (ex < -53 * ONE / 64 || ex > 55 * ONE / 64 || ey < -47 * ONE / 64 || ey > 47 * ONE / 64)
+        return refused(2);
+    if (part_is_refused(sx) || part_is_refused(sy))
+        return refused(3);
+    int64_t x = sx, y = sy;
+    for (int64_t i = 1; i <= n; i++) {
+        int64_t dx = (ex >= (ONE / 8 * 3) >> i) - (ex < (-ONE / 2) >> i);
+        int64_t dy = (ey >= (ONE / 16 * 13) >> i) - (ey < (-ONE / 4 * 3) >> i);
+        struct entry entry = STEPS[i - 1][dx + 1][dy + 1];
+        int64_t old_x = x;
+        x += (dx * x - dy * y) >> i;
+        y += (dx * y + dy * old_x) >> i;
+        ex -= entry.re;
+        ey -= entry.im;
+    }
+    return (struct answer){.x = x, .y = y, .column = share(8, sx, sy, n) + 3 * n};
+}
+
+struct answer engine_log(int64_t n, int64_t px, int64_t py) {
+    if (n < 3 || n > 40)
+        return refused(1);
+    if (part_is_refused(px) || part_is_refused(py))
+        return refused(3);
+    if (px == 0 && py == 0)
+        return refused(4);
+    /* The point is i^q*(wx + i*wy) with -wx < wy <= wx. */
+    int64_t q, wx, wy;
+    if (-px < py && py <= px) {
+        q = 0, wx = px, wy = py;
+    } else if (-py < -px && -px <= py) {
+        q = 1, wx = py, wy = -px;
+    } else if (px < -py && -py <= -px) {
+        q = 2, wx = -px, wy = -py;
+    } else {
+        q = 3, wx = -py, wy = px;
+    }
+    int64_t k = 16 - __builtin_clzll((unsigned long long)wx);
+    if (k <= 0) {
+        wx = (int64_t)((uint64_t)wx << -k);
+        wy = (int64_t)((uint64_t)wy << -k);
+    } else {
+        wx >>= k;
+        wy >>= k;
+    }
+    /* Cells have side 1/16; X = 17 is the first, from 8/16 on, and Y = -31 from -16/16 on. */
+    int64_t across = (wx >> 44) - 8, up = (wy >> 44) + 16;
+    struct entry seat = SEATS[across][up], log = SEAT_LOGS[across][up];
+    int64_t x = (seat.re * wx - seat.im * wy) >> 6, y = (seat.re * wy + seat.im * wx) >> 6;
+    int64_t answer_x = -log.re, answer_y = -log.im;
+    for (int64_t i = 3; i <= n; i++) {
+        int64_t half = (ONE / 2) >> i, u = x - ONE;
+        int64_t dx = (u <= -half) - (u >= half), dy = (y <= -half) - (y >= half);
+        struct entry entry = STEPS[i - 1][dx + 1][dy + 1];
+        int64_t old_x = x;
+        x += (dx * x - dy * y) >> i;
+        y += (dx * y + dy * old_x) >> i;
+        answer_x -= entry.re;
+        answer_y -= entry.im;
+    }
+    return (struct answer){.x = answer_x, .y = answer_y, .k = k, .q = q, .column = share(3, px, py, n)};
+}
+
+/* A machine that stores the low byte first holds a record as it is. */
+_Static_assert(sizeof(struct answer) == 48 && __BYTE_ORDER__ == __ORDER_LITTLE_ENDIAN__, "the record");
+
+static int64_t write_record(struct answer answer, uint8_t *out) {
+    memcpy(out, &answer, sizeof answer);
+    return answer.refusal;
+}
+
+int64_t plain_exp(int64_t n, int64_t ex, int64_t ey, int64_t sx, int64_t sy, uint8_t *out, size_t len) {
+    return len < 48 ? 6 : write_record(engine_exp(n, ex, ey, sx, sy), out);
+}
+
+int64_t plain_log(int64_t n, int64_t x, int64_t y, uint8_t *out, size_t len) {
+    return len < 48 ? 6 : write_record(engine_log(n, x, y), out);
+}

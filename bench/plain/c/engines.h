@@ -1,0 +1,20 @@
+/* EXP and LOG of paper 01 as one would write them in C with nothing proved. */
+#ifndef ENGINES_H
+#define ENGINES_H
+
+#include <stddef.h>
+#include <stdint.h>
+
+/* The numbers of a record in their order; all but the first are 0 when refused. */
+struct answer {
+    int64_t refusal, x, y, k, q, column;
+};
+
+struct answer engine_exp(int64_t n, int64_t ex, int64_t ey, int64_t sx, int64_t sy);
+struct answer engine_log(int64_t n, int64_t px, int64_t py);
+
+/* As bkm_exp and bkm_log of include/bkm.h. */
+int64_t plain_exp(int64_t n, int64_t ex, int64_t ey, int64_t sx, int64_t sy, uint8_t *out, size_t len);
+int64_t plain_log(int64_t n, int64_t x, int64_t y, uint8_t *out, size_t len);
+
+#endif

@@ -1,0 +1,30 @@
+//! The C version, where the kit's clang was found.
+
+pub struct Version {
+    pub compiler: &'static str,
+    /// The sheet program.
+    pub program: &'static str,
+    pub exp_record: fn(i64, i64, i64, i64, i64, &mut [u8]) -> i64,
+    pub log_record: fn(i64, i64, i64, &mut [u8]) -> i64,
+}
+
+#[cfg(not(plain_c))]
+pub const VERSION: Option<Version> = None;
+
+#[cfg(plain_c)]
+pub const VERSION: Option<Version> = Some(Version {
+    compiler: env!("PLAIN_C_COMPILER"),
+    program: env!("PLAIN_C_PROGRAM"),
+    exp_record: |n, ex, ey, sx, sy, out| {
+        // SAFETY: the pointer and the length are those of one exclusive slice.
+        unsafe { plain_exp(n, ex, ey, sx, sy, out.as_mut_ptr(), out.len()) }
+    },
+    // SAFETY: as above.
+    log_record: |n, x, y, out| unsafe { plain_log(n, x, y, out.as_mut_ptr(), out.len()) },
+});
+
+#[cfg(plain_c)]
+extern "C" {
+    fn plain_exp(n: i64, ex: i64, ey: i64, sx: i64, sy: i64, out: *mut u8, len: usize) -> i64;
+    fn plain_log(n: i64, x: i64, y: i64, out: *mut u8, len: usize) -> i64;
+}

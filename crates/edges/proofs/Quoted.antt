@@ -1,0 +1,24 @@
+-- The first line of the run that 01 quotes, as the checker computes it: 1|EXP|40|0|0|281474976710656|0 answers 281474976710656|0|2168.
+use mathlib.Core.Path.{_≡_, refl}
+use mathlib.Core.List.{[], _∷_}
+use lib.IntN.{ℤ, pos}
+use Rattle.algebra.specs.Gauss.{_+ᵍ_, negᵍ}
+use Rattle.algebra.specs.Rounding.{ceiling}
+use Rattle.algebra.specs.Size.{abs, larger}
+use Rattle.word.specs.Compare.{between}
+use Rattle.point.specs.Limits.{inSteps, inBox, inParts}
+use Rattle.point.specs.Step.{quotient, step}
+use Rattle.answer.specs.Record.{recordOf}
+use Rattle.table_numbers.specs.Numbers48.{stepLogs}
+use Rattle.table_numbers.specs.Table.{stepTable}
+use Rattle.iteration.specs.Select.{exp-select}
+use Rattle.iteration.specs.Run.{select, next, run}
+use Rattle.exponential.specs.Answer.{inRectangle, errorBound, answer, expAnswer}
+
+abbrev one : ℤ
+one = pos 281474976710656
+
+pub kernel-one : recordOf (expAnswer (pos 40) (pos 0) (pos 0) one (pos 0)) ≡ pos 0 ∷ one ∷ pos 0 ∷ pos 0 ∷ pos 0 ∷ pos 2168 ∷ []
+unfolding recordOf expAnswer answer inSteps inRectangle inParts inBox between errorBound ceiling larger abs run next select exp-select step
+    quotient stepTable stepLogs _+ᵍ_ negᵍ
+kernel-one = refl

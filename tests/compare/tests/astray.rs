@@ -1,0 +1,196 @@
+//! 01, Where a step goes astray: the product against the second implementation with one fault
+//! put in, on inputs at which the fault shows.
+
+use compare::{numbers, observed};
+use reference::edges::{EXP, EY_GREATEST, ONE};
+use reference::exponential::{self, Input as Exp, CUT};
+use reference::logarithm::{self, Input as Log};
+use reference::point::{point, Digit, Point};
+use reference::samples::{exp_input, log_input, Random};
+use reference::tables::{reciprocal, tables};
+use reference::width::WIDTH_48 as W;
+
+#[derive(Clone, Copy, PartialEq, Eq, Debug)]
+enum Fault {
+    /// None.
+    Right,
+    /// A quotient cut towards zero: in a step, in LOG's scale, in the product with the seat.
+    StepCut,
+    ScaleCut,
+    SeatCut,
+    /// The new x used in making the new y.
+    NewX,
+    /// The half before the real logarithm lost.
+    HalfLost,
+    /// Equation 3.10 of 004: a minus before the squares.
+    MinusSquares,
+}
+
+use Fault::*;
+
+impl Fault {
+    fn quotient(self, a: i128, n: u32, cut_by: Fault) -> i128 {
+        let floor = a >> n;
+        if self == cut_by && a < 0 && floor << n != a {
+            floor + 1
+        } else {
+            floor
+        }
+    }
+
+    fn step(self, p: Point, d: Digit, n: u32) -> Point {
+        let x = p.x + self.quotient(d.x * p.x - d.y * p.y, n, StepCut);
+        let used = if self == NewX { x } else { p.x };
+        point(x, p.y + self.quotient(d.x * p.y + d.y * used, n, StepCut))
+    }
+
+    fn entry(self, d: Digit, n: u32) -> Point {
+        let entry = tables(W).step(n, d);
+        match self {
+            HalfLost => point(2 * entry.x, entry.y),
+            MinusSquares => {
+                let power = 2f64.powi(-(n as i32));
+                let squares = (d.x * d.x + d.y * d.y) as f64 * power * power;
+                let log = (2.0 * d.x as f64 * power - squares).ln_1p() / 2.0;
+                point((log * ONE as f64).round() as i128, entry.y)
+            }
+            _ => entry,
+        }
+    }
+
+    fn exp(self, input: Exp) -> Point {
+        let (mut exponent, mut start) = (input.exponent(), input.start());
+        for n in 1..=input.n as u32 {
+            let digit = exponential::digit(exponent, n, CUT, W);
+            exponent = exponent - self.entry(digit, n);
+            start = self.step(start, digit, n);
+        }
+        start
+    }
+
+    fn log(self, input: Log) -> Point {
+        let reduction = logarithm::reduce(input.point(), W);
+        let turned = input.point().turned(4 - reduction.quadrant);
+        let k = reduction.binary_exponent;
+        let scale = |part: i128| match k {
+            ..=0 => part << -k,
+            _ => self.quotient(part, k as u32, ScaleCut),
+        };
+        let scaled = point(scale(turned.x), scale(turned.y));
+        let [cx, cy] = [scaled.x, scaled.y].map(|part| 2 * (part >> 44) + 1);
+        let product = scaled.times(reciprocal(cx, cy));
+        let [x, y] = [product.x, product.y].map(|part| self.quotient(part, 6, SeatCut));
+        let (mut near_one, mut answer) =
+            (point(x, y), point(0, 0) - tables(W).reciprocal_log(cx, cy));
+        for n in logarithm::FIRST_STEP..=input.n as u32 {
+            let digit = logarithm::digit(near_one - point(W.one(), 0), n, W);
+            near_one = self.step(near_one, digit, n);
+            answer = answer - self.entry(digit, n);
+        }
+        answer
+    }
+}
+
+/// The parts of the product's answer; none when refused.
+fn product(call: impl FnOnce(&mut [u8]) -> i64) -> Option<Point> {
+    let [refusal, x, y, ..] = numbers(observed(call));
+    (refusal == 0).then_some(point(x.into(), y.into()))
+}
+
+fn product_exp(input: Exp) -> Option<Point> {
+    product(|out| compare::exp(input, out))
+}
+
+fn product_log(input: Log) -> Option<Point> {
+    product(|out| compare::log(input, out))
+}
+
+/// One step by hand.
+#[test]
+fn one_step() {
+    let real = Exp { n: 1, ex: ONE / 2, ..EXP };
+    let imaginary = Exp { n: 1, ey: EY_GREATEST, ..EXP };
+    let cases = [
+        (Exp { sx: -1, sy: 0, ..real }, [-2, 0], StepCut),
+        (Exp { sx: 0, sy: -1, ..real }, [0, -2], StepCut),
+        (Exp { sx: -3, sy: -5, ..real }, [-5, -8], StepCut),
+        (Exp { sx: 0, sy: 1, ..imaginary }, [-1, 1], StepCut),
+        (Exp { sx: -1, sy: 0, ..imaginary }, [-1, -1], StepCut),
+        (Exp { sx: 0, sy: 1, ..imaginary }, [-1, 1], NewX),
+        (Exp { sx: 4, sy: 4, ..imaginary }, [2, 6], NewX),
+        (Exp { sx: ONE, sy: -ONE, ..imaginary }, [3 * ONE / 2, -ONE / 2], NewX),
+    ];
+    for (input, [x, y], fault) in cases {
+        let wanted = point(x.into(), y.into());
+        assert_eq!(product_exp(input), Some(wanted), "{input:?}");
+        assert_ne!(fault.exp(input), wanted, "{fault:?} does not show at {input:?}");
+    }
+}
+
+/// Every N: a small negative start shows the floor, a large one the old pair and the tables.
+#[test]
+fn every_count_of_steps() {
+    for n in 1..=40 {
+        let one = Exp { n, ex: ONE / 2, ey: EY_GREATEST, sx: ONE, sy: 0 };
+        let small = Exp { sx: -1, sy: 0, ..one };
+        for (input, fault) in [(small, StepCut), (one, NewX), (one, HalfLost), (one, MinusSquares)]
+        {
+            let seen = product_exp(input).unwrap();
+            assert_eq!(seen, Right.exp(input), "{input:?}");
+            // The first step has the digit 1 + i whatever its entry is.
+            let shows = n > 1 || fault == StepCut || fault == NewX;
+            assert!(!shows || seen != fault.exp(input), "{fault:?} does not show at {input:?}");
+        }
+    }
+}
+
+/// LOG's scale: just below the lower edge of a cell, by less than a unit after scaling. Cut
+/// towards zero, the point would be in the cell above.
+#[test]
+fn scale_of_log() {
+    for k in 1..=11 {
+        for edge in 0..8 {
+            for below in [1, (1 << k) - 1] {
+                let turned = point(1 << (47 + k), -(edge << (44 + k)) - below);
+                for q in 0..4 {
+                    let Point { x, y } = turned.turned(q);
+                    let input = Log { n: 40, x: x as i64, y: y as i64 };
+                    let seen = product_log(input).unwrap();
+                    assert_eq!(seen, Right.log(input), "{input:?}");
+                    assert_ne!(seen, ScaleCut.log(input), "does not show at {input:?}");
+                }
+            }
+        }
+    }
+}
+
+/// Each fault shows at many of the random inputs, and at none of them in the product.
+#[test]
+fn random_inputs() {
+    const SAMPLES: usize = 100_000;
+    let mut random = Random::new(14);
+    for fault in [StepCut, NewX, HalfLost, MinusSquares] {
+        let inputs = (0..SAMPLES).map(|_| exp_input(&mut random, W));
+        let shown = inputs.filter(|&input| {
+            product_exp(input).is_some_and(|seen| {
+                assert_eq!(seen, Right.exp(input), "{input:?}");
+                seen != fault.exp(input)
+            })
+        });
+        let shown = shown.count();
+        println!("EXP, {fault:?}: {shown} of {SAMPLES}");
+        assert!(shown > SAMPLES / 1000);
+    }
+    for fault in [StepCut, ScaleCut, SeatCut, NewX, HalfLost, MinusSquares] {
+        let inputs = (0..SAMPLES).map(|_| log_input(&mut random, W));
+        let shown = inputs.filter(|&input| {
+            product_log(input).is_some_and(|seen| {
+                assert_eq!(seen, Right.log(input), "{input:?}");
+                seen != fault.log(input)
+            })
+        });
+        let shown = shown.count();
+        println!("LOG, {fault:?}: {shown} of {SAMPLES}");
+        assert!(shown > SAMPLES / 1000);
+    }
+}

@@ -1,0 +1,98 @@
+//! The program and the C call on single lines of every kind of damage.
+
+use compare::program::{answers, check};
+use reference::damage::{every_damage, longest_line, tabs, MALFORMED, REFUSED};
+use reference::samples::{self, Random};
+use reference::sheet::answer_into;
+use reference::width::WIDTH_48;
+
+/// A line alone, with its newline and without, has this answer.
+fn check_line(line: &[u8], answer: &str) {
+    let wanted = tabs(&format!("BKM|48\n{answer}\n"));
+    let shown = String::from_utf8_lossy(line);
+    assert_eq!(answers(&[line, b"\n"]), wanted, "{shown:?}");
+    if !line.is_empty() {
+        assert_eq!(answers(&[line]), wanted, "{shown:?} without its newline");
+    }
+}
+
+#[test]
+fn malformed() {
+    for line in MALFORMED {
+        check_line(&tabs(line), "0|REF|5");
+    }
+    check_line(b"1\tLOG\t40\t\xff\t0", "0|REF|5");
+}
+
+#[test]
+fn refused() {
+    for (line, answer) in REFUSED {
+        check_line(&tabs(line), answer);
+    }
+}
+
+/// 116 bytes are the most; the program's state keeps 117 and its blocks have 65536.
+#[test]
+fn lengths() {
+    let longest = longest_line();
+    assert_eq!(longest.len(), 116);
+    check_line(&longest, "9999999|REF|1");
+    for count in [117, 118, 127, 128, 129, 1 << 12, 65535, 65536, 65537, 200_000] {
+        let mut digits = longest.clone();
+        digits.resize(count, b'8');
+        check_line(&digits, "0|REF|5");
+        // Well formed again past what the state keeps.
+        let mut tail = vec![b'1'; count - 11];
+        tail.extend(b"\tLOG\t40\t1\t0");
+        check_line(&tail, "0|REF|5");
+    }
+}
+
+#[test]
+fn damage_of_one_byte() {
+    for line in ["1|EXP|40|-7|8|281474976710656|0", "90|LOG|3|-5|288230376151711744"] {
+        check(&[&every_damage(&tabs(line)).join(&b'\n')]);
+    }
+}
+
+/// A damaged line leaves the lines beside it as they are.
+#[test]
+fn between_good_lines() {
+    let good = tabs("1|EXP|40|0|0|281474976710656|0");
+    for line in MALFORMED {
+        let seen = answers(&[&[good.clone(), tabs(line), good.clone()].join(&b'\n')]);
+        let answer = "1|EXP|40|281474976710656|0|2168";
+        assert_eq!(seen, tabs(&format!("BKM|48\n{answer}\n0|REF|5\n{answer}\n")), "{line:?}");
+    }
+}
+
+/// The call for a line, with a lent buffer of every length between bytes that must stay.
+#[test]
+fn every_buffer() {
+    let lines = MALFORMED.iter().chain(REFUSED.iter().map(|(line, _)| line)).map(|line| tabs(line));
+    let mut random = Random::new(1994);
+    let drawn: Vec<_> = (0..40).map(|_| samples::line(&mut random, WIDTH_48)).collect();
+    for line in lines.chain([longest_line()]).chain(drawn) {
+        for length in 0..=200 {
+            let mut seen: Vec<u8> = (0..length + 32).map(|i| (i * 37 + length) as u8).collect();
+            let mut wanted = seen.clone();
+            let lent = 16..16 + length;
+            let count = compare::line(&line, &mut seen[lent.clone()]);
+            assert_eq!(count, answer_into(&line, &mut wanted[lent], WIDTH_48).1, "{length} bytes");
+            assert_eq!(seen, wanted, "{length} bytes");
+        }
+    }
+}
+
+/// The call and the second implementation on lines drawn at random, whole and damaged.
+#[test]
+fn random_lines() {
+    let mut random = Random::new(48);
+    for _ in 0..200_000 {
+        let line = samples::line(&mut random, WIDTH_48);
+        let (mut seen, mut wanted) = ([0xa5; 128], [0xa5; 128]);
+        let count = compare::line(&line, &mut seen);
+        assert_eq!(count, answer_into(&line, &mut wanted, WIDTH_48).1);
+        assert_eq!(seen, wanted, "{:?}", String::from_utf8_lossy(&line));
+    }
+}
