@@ -27,7 +27,8 @@ use Rattle.buffer.specs.declared.reading.Number.the-variants as num
 module _ (s : List ℕ) (i : ℕ) where
   pub ends-here : endsAt s i ≡ true → findByte 9 s i ≡ i
   ends-here h =
-      either (ltb i (length s)) (λ e. found-here 9 s i (ltb-true _ _ e) (eqb-true _ _ (rw e at h))) (λ e. found-none 9 s i (ltb-false _ _ e))
+      either (ltb i (length s)) (λ e. found-here 9 s i (ltb-true _ _ e) (eqb-true _ _ (rw e at h)))
+      (λ e. found-none 9 s i (ltb-false _ _ e))
 
   pub goes-on : endsAt s i ≡ false → (i < length s) × (getD s i 0 ≡ 9 → ⊥)
   goes-on h =

@@ -1,5 +1,4 @@
--- Only private contracts cite this: what a run of bytes leaves in a buffer that has room for it, digits by halves, and how far
--- a field is read.
+-- Only private contracts cite this: what a run of bytes leaves in a buffer with room for it, digits by halves, and a field read in one pass.
 use mathlib.Core.Path.{_≡_}
 use mathlib.Core.Bool.{Bool, true, cond}
 use mathlib.Core.Logic.{_⊎_}
@@ -21,7 +20,7 @@ pub record Front (xs b b′ : List ℕ) (end : ℕ) : Type 0 where
   pub bytes : b′ ≡ xs ++ drop (length xs) b
   pub count : end ≡ length xs
 
--- the last 2^k digits of v, zeros in front, where v has no more
+-- v, which has at most 2^k digits, in so many, zeros in front: one half behind the other
 unfoldable pub halves : ℕ → ℕ → List ℕ
 halves zero v = (48 + v) ∷ []
 halves (suc k) v = halves k (v / 10 ^ (2 ^ k)) ++ halves k (v % 10 ^ (2 ^ k))

@@ -18,7 +18,7 @@ use Rattle.exponential.specs.Answer.{inRectangle, errorBound, answer, expAnswer
 abbrev one : ℤ
 one = pos 281474976710656
 
-pub kernel-one : recordOf (expAnswer (pos 40) (pos 0) (pos 0) one (pos 0)) ≡ pos 0 ∷ one ∷ pos 0 ∷ pos 0 ∷ pos 0 ∷ pos 2168 ∷ []
+pub quoted-line : recordOf (expAnswer (pos 40) (pos 0) (pos 0) one (pos 0)) ≡ pos 0 ∷ one ∷ pos 0 ∷ pos 0 ∷ pos 0 ∷ pos 2168 ∷ []
 unfolding recordOf expAnswer answer inSteps inRectangle inParts inBox between errorBound ceiling larger abs run next select exp-select step
     quotient stepTable stepLogs _+ᵍ_ negᵍ
-kernel-one = refl
+quoted-line = refl

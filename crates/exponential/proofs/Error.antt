@@ -37,7 +37,7 @@ share-is = refl
 -- ---- the end, as algebra: q = 2^N, one is 64·q·v units, S is the exponential of what is left, which is at most 91·v long
 module _ (q v n P δ m : ℤ) (p s Q S S₀ : 𝔾) (q≥2 : pos 2 ⩽ q) (v≥1 : pos 1 ⩽ v) (n≤40 : n ⩽ pos 40) (P≥0 : pos 0 ⩽ P) (δ≥1 : pos 1 ⩽ δ)
     (given : Parts s m)
-    (length : Within (ιᵍ (pos 4 *ℤ (q *ℤ q)) *ᵍ Q) (product-most q *ℤ δ))
+    (Q-size : Within (ιᵍ (pos 4 *ℤ (q *ℤ q)) *ᵍ Q) (product-most q *ℤ δ))
     (rounded : Within (ιᵍ δ *ᵍ p -ᵍ Q *ᵍ s) (rounding-share *ℤ n *ℤ δ))
     (tabled : Within (ιᵍ (pos 128 *ℤ q) *ᵍ (Q *ᵍ S -ᵍ ιᵍ δ *ᵍ S₀)) (n *ℤ (δ *ℤ (pos 4 *ℤ P))))
     (left : Within (ιᵍ (pos 2 *ℤ (q *ℤ (pos 64 *ℤ v)) -ℤ pos 91 *ℤ v) *ᵍ (S -ᵍ ιᵍ P)) (pos 2 *ℤ (pos 91 *ℤ v) *ℤ P)) where
@@ -58,7 +58,7 @@ module _ (q v n P δ m : ℤ) (p s Q S S₀ : 𝔾) (q≥2 : pos 2 ⩽ q) (v≥1
       (lin (q ∷ v ∷ δ ∷ P ∷ []) (nonneg-mul a (nonneg-mul (sub-nonneg q≥2) (sub-nonneg q≥2)) & nonneg-mul a (sub-nonneg q≥2) & a & none)
       (search reify depth 20) tt)
       (subst (λ z. Within z (product-most q *ℤ δ *ℤ (pos 2 *ℤ (pos 91 *ℤ v) *ℤ P)))
-      (ring! 𝔾R (ιᵍ q ∷ ιᵍ v ∷ Q ∷ S ∷ ιᵍ P ∷ []) (search reifyᵍ depth 20) tt) (within-mul length left))
+      (ring! 𝔾R (ιᵍ q ∷ ιᵍ v ∷ Q ∷ S ∷ ιᵍ P ∷ []) (search reifyᵍ depth 20) tt) (within-mul Q-size left))
     where
       a : pos 0 ⩽ q *ℤ (v *ℤ (δ *ℤ P))
       a = nonneg-mul (nonneg q≥1) (nonneg-mul (nonneg v≥1) (nonneg-mul δ≥0 P≥0))
@@ -147,7 +147,7 @@ module _ (F M : ℕ) (wide : 16 ≤ F) (room : M + 8 ≤ F) (t : StepTable) (pro
       ((pos 520 *ℤ m +ℤ pos 70 *ℤ (rounding-share *ℤ pos n *ℤ two n)) *ℤ Dᶻ (2 ^ F) T)
   exp-error-share T long n h g k = within-parts (total (two n) v (pos n) (Dᶻ (2 ^ F) T) (a .exact .δ) m (gauss (x n .point)) s (a .exact .Q)
       (Sᵍ (2 ^ F) T (gauss (x n .sum))) (Sᵍ (2 ^ F) T e) q≥2 (two≥1 (F - 6 - n)) (pos-mono k) (nonneg-pos (D (2 ^ F) T)) (a .exact .δ≥1)
-      given (a .exact .length) rounded (a .tabled)
+      given (a .exact .Q-size) rounded (a .tabled)
       (subst (λ U. Within (ιᵍ (pos 2 *ℤ U -ℤ pos 91 *ℤ v) *ᵍ (Sᵍ (2 ^ F) T (gauss (x n .sum)) -ᵍ Dᵍ (2 ^ F) T))
       (pos 2 *ℤ (pos 91 *ℤ v) *ℤ Dᶻ (2 ^ F) T)) (sym unit)
       (laws-at F .near-one left (lin (v ∷ two F ∷ []) (two-mul-le 6 (F - 6 - n) F (omega arith) & nonneg-pos (2 ^ (F - 6 - n)) & none)

@@ -80,7 +80,7 @@ pub record Exact (o : 𝔾) (n : ℕ) (p : 𝔾) : Type 0 where
   pub δ : ℤ
   pub Q : 𝔾
   pub δ≥1 : pos 1 ⩽ δ
-  pub length : Within (ιᵍ (pos 4 *ℤ (two n *ℤ two n)) *ᵍ Q) (product-most (two n) *ℤ δ)
+  pub Q-size : Within (ιᵍ (pos 4 *ℤ (two n *ℤ two n)) *ᵍ Q) (product-most (two n) *ℤ δ)
   pub rounded : Within (ιᵍ δ *ᵍ p -ᵍ Q *ᵍ o) (drift-a-step *ℤ pos n *ℤ δ)
 
 module _ {o : 𝔾} where
@@ -88,7 +88,7 @@ module _ {o : 𝔾} where
   pub exact-length : {n : ℕ} {p : 𝔾} (a : Exact o n p) → Within (ιᵍ (pos 4) *ᵍ a .Q) (pos 11 *ℤ a .δ)
   exact-length {n} a = within-ratio (a .Q) (pos 4 *ℤ (q *ℤ q)) (pos 4) (one-mul {a = pos 4} (record { le = tt }) (one-mul q≥1 q≥1))
       (nonneg-pos 4)
-      (lin (q ∷ a .δ ∷ []) (nonneg-mul (sub-nonneg q≥1) (sub-nonneg (a .δ≥1)) & a .δ≥1 & q≥1 & none) (search reify depth 20) tt) (a .length)
+      (lin (q ∷ a .δ ∷ []) (nonneg-mul (sub-nonneg q≥1) (sub-nonneg (a .δ≥1)) & a .δ≥1 & q≥1 & none) (search reify depth 20) tt) (a .Q-size)
     where
       q : ℤ
       q = two n
@@ -101,7 +101,7 @@ module _ {o : 𝔾} where
     δ = pos 1;
     Q = ιᵍ (pos 1);
     δ≥1 = record { le = tt };
-    length = within-scale (pos 4) (nonneg-pos 4) (within-ι (pos 1) (nonneg-pos 1));
+    Q-size = within-scale (pos 4) (nonneg-pos 4) (within-ι (pos 1) (nonneg-pos 1));
     rounded = subst (λ z. Within z (pos 0)) (ring! 𝔾R (o ∷ []) (search reifyᵍ depth 20) tt) (within-ι (pos 0) (nonneg-pos 0));
   }
 
@@ -110,9 +110,9 @@ module _ {o : 𝔾} where
     δ = m *ℤ a .δ;
     Q = (ιᵍ m +ᵍ d) *ᵍ a .Q;
     δ≥1 = one-mul (two≥1 (suc n)) (a .δ≥1);
-    length = subst (λ m. Within (ιᵍ (pos 4 *ℤ (m *ℤ m)) *ᵍ ((ιᵍ m +ᵍ d) *ᵍ a .Q)) (product-most m *ℤ (m *ℤ a .δ))) (sym (two-suc n))
+    Q-size = subst (λ m. Within (ιᵍ (pos 4 *ℤ (m *ℤ m)) *ᵍ ((ιᵍ m +ᵍ d) *ᵍ a .Q)) (product-most m *ℤ (m *ℤ a .δ))) (sym (two-suc n))
         (longer (two n) (a .δ) (ιᵍ (pos 2 *ℤ two n) +ᵍ d) (a .Q) (two≥1 n) δ≥0 (digit-size (pos 2 *ℤ two n) d (nonneg-pos (2 * 2 ^ n)) dig)
-        (a .length));
+        (a .Q-size));
     rounded = subst (λ k. Within (ιᵍ (m *ℤ a .δ) *ᵍ step (suc n) d p -ᵍ (ιᵍ m +ᵍ d) *ᵍ a .Q *ᵍ o) (drift-a-step *ℤ k *ℤ (m *ℤ a .δ)))
         (one-more n)
         (rounding half-units drift-a-step (pos n) m (a .δ) (ιᵍ m +ᵍ d) (a .Q) o p (step (suc n) d p) (two≥1 (suc n)) δ≥0
@@ -181,7 +181,7 @@ module _ {F M T : ℕ} (wide : 11 ≤ F) (room : M + 8 ≤ F) (few : M ≤ 40) (
       Rule F T m c z → Within (s -ᵍ z) α → Within z β → pos 4 *ℤ (α +ℤ β) ⩽ pos 9 *ℤ two F →
       Within (ιᵍ (pos 128 *ℤ two M) *ᵍ (Q *ᵍ exp s -ᵍ ιᵍ δ *ᵍ E)) (pos n *ℤ (δ *ℤ B)) →
       Within (ιᵍ (pos 128 *ℤ two M) *ᵍ (c *ᵍ Q *ᵍ exp (s -ᵍ z) -ᵍ ιᵍ (pos m *ℤ δ) *ᵍ E)) (pos (suc n) *ℤ (pos m *ℤ δ *ℤ B))
-  one-factor {n} {δ} Q s m c z g δ≥1 length rule hs hz near old = subst
+  one-factor {n} {δ} Q s m c z g δ≥1 Q-size rule hs hz near old = subst
       (λ k. Within (ιᵍ H *ᵍ (c *ᵍ Q *ᵍ exp (s -ᵍ z) -ᵍ ιᵍ (pos m *ℤ δ) *ᵍ E)) (k *ℤ (pos m *ℤ δ *ℤ B)))
       (one-more n)
       (tables (two F) (two 50) P B H (pos m) δ (pos n) Q (exp s) (exp (s -ᵍ z)) E c (exp z)
@@ -189,7 +189,7 @@ module _ {F M T : ℕ} (wide : 11 ≤ F) (room : M + 8 ≤ F) (few : M ≤ 40) (
       (pos-mono (D-pos (2 ^ F) (two-pos F) T)) P≤B (nonneg-pos _) (nonneg-pos m) (nonneg δ≥1)
       (rate (two M) (pos n) (two F) (two 50) (two≥1 M) (pos-mono (omega arith)) (two-mono 11 F wide) (two-mul-le 8 M F (omega arith))
       (two-mul-le 10 M 50 (omega arith)))
-      origin length (subst (λ w. Within (twoᵍ 50 *ᵍ (exp (s -ᵍ z) *ᵍ exp z -ᵍ ιᵍ P *ᵍ exp w)) (P *ℤ P)) back
+      origin Q-size (subst (λ w. Within (twoᵍ 50 *ᵍ (exp (s -ᵍ z) *ᵍ exp z -ᵍ ιᵍ P *ᵍ exp w)) (P *ℤ P)) back
       (laws-at F .product hs hz near T long)) rule old)
     where
       back : s -ᵍ z +ᵍ z ≡ s

@@ -70,7 +70,7 @@ module _ (U W P B H m δ n : ℤ) (Q S S′ S₀ c X : 𝔾) (U≥9 : pos 9 ⩽ 
     (m≥0 : pos 0 ⩽ m) (δ≥0 : pos 0 ⩽ δ)
     (room : pos 77 *ℤ U *ℤ H +ℤ pos 32 *ℤ W *ℤ (n +ℤ H) +ℤ pos 88 *ℤ H ⩽ pos 28 *ℤ U *ℤ W)
     (origin : Within S₀ B)
-    (length : Within (ιᵍ (pos 4) *ᵍ Q) (pos 11 *ℤ δ))
+    (Q-size : Within (ιᵍ (pos 4) *ᵍ Q) (pos 11 *ℤ δ))
     (product : Within (ιᵍ W *ᵍ (S′ *ᵍ X -ᵍ ιᵍ P *ᵍ S)) (P *ℤ P))
     (rule : N (ιᵍ m *ᵍ X -ᵍ c *ᵍ ιᵍ P) *ℤ (U *ℤ U) ⩽ N c *ℤ (P *ℤ P))
     (old : Within (ιᵍ H *ᵍ (Q *ᵍ S -ᵍ ιᵍ δ *ᵍ S₀)) (n *ℤ (δ *ℤ B))) where
@@ -85,7 +85,7 @@ module _ (U W P B H m δ n : ℤ) (Q S S′ S₀ c X : 𝔾) (U≥9 : pos 9 ⩽ 
 
   -- what the product law is off by
   off : Within (ιᵍ (pos 4) *ᵍ Q *ᵍ (ιᵍ W *ᵍ (S′ *ᵍ X -ᵍ ιᵍ P *ᵍ S))) (pos 11 *ℤ δ *ℤ (P *ℤ B))
-  off = within-weaken (within-mul length product) (lin (δ ∷ P ∷ B ∷ []) (nonneg-mul (nonneg-mul δ≥0 P≥0) (sub-nonneg P≤B) & none)
+  off = within-weaken (within-mul Q-size product) (lin (δ ∷ P ∷ B ∷ []) (nonneg-mul (nonneg-mul δ≥0 P≥0) (sub-nonneg P≤B) & none)
       (search reify depth 20) tt)
 
   -- so 4 H W times S′ X Q m is known, and by the rule 28 U H W times S′ Q R, R being what the rule is off by

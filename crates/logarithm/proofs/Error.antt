@@ -58,7 +58,7 @@ module _ {F n T : ℕ} (room : n + 8 ≤ F) (many : 3 ≤ n) (few : n ≤ 40) (l
     δ = pos 64;
     Q = c;
     δ≥1 = record { le = tt };
-    length = record { sign = record { le = tt }; size = lin (c .re ∷ c .im ∷ []) (small & none) (search reify depth 20) tt };
+    Q-size = record { sign = record { le = tt }; size = lin (c .re ∷ c .im ∷ []) (small & none) (search reify depth 20) tt };
     rounded = within-cancel (pos 70) (record { le = tt })
         (within-weaken (parts-within (subst (λ z. Parts z (pos 64)) turn (parts-neg start))) (record { le = tt }));
   }
@@ -72,9 +72,9 @@ module _ {F n T : ℕ} (room : n + 8 ≤ F) (many : 3 ≤ n) (few : n ≤ 40) (l
   short : Short F (most F) 2 s
   short = log-short F (omega arith) entry
 
-  seated : Near F n T p E P 2 (state v (negᵍ s))
+  after-reciprocal : Near F n T p E P 2 (state v (negᵍ s))
   unfolding exact
-  seated = record {
+  after-reciprocal = record {
     exact = exact;
     tabled = within-weaken (subst₂ (λ Q z. Within (ιᵍ (pos 128 *ℤ two n) *ᵍ (Q *ᵍ Sᵍ (2 ^ F) T z -ᵍ ιᵍ (pos 64) *ᵍ E))
         (pos 1 *ℤ (pos 64 *ℤ P))) (g-mul-one c) minus
@@ -103,7 +103,7 @@ module _ {F n T : ℕ} (room : n + 8 ≤ F) (many : 3 ≤ n) (few : n ≤ 40) (l
   followed t promise = subst (λ e. Near F n T p e P n (run F t Log 2 (n - 2) (state v (negᵍ s)))) (sym (S-zero (2 ^ F) T long))
       (drift (omega arith) room few long p E P (⩽-refl P) origin t promise Log (λ m x. Short F (most F) m (gauss (x .sum))) (most F) far
       (sum-next F n room t promise)
-      (λ m x h k. k) 2 (n - 2) n (state v (negᵍ s)) (omega arith) (omega arith) (within-neg short) seated)
+      (λ m x h k. k) 2 (n - 2) n (state v (negᵍ s)) (omega arith) (omega arith) (within-neg short) after-reciprocal)
     where
       far : most F ⩽ pos 9 *ℤ two (F - 2)
       far = lin (two (F - 2) ∷ two (F - 4) ∷ []) (two-mul-le 2 (F - 4) (F - 2) (omega arith) & nonneg-pos (2 ^ (F - 4)) & none)

@@ -84,13 +84,13 @@ pub record Down (F : ℕ) (w : Point) (b : ℕ) : Type 0 where
 module _ {F : ℕ} {w : Point} {b : ℕ} (s : ScalePre F w b) where
   -- the parts are at most 2^b in size
   scale-parts : Parts (gauss w) (two b)
-  scale-parts = subst (λ b. Parts (gauss w) (two b)) (sym (s .length))
+  scale-parts = subst (λ b. Parts (gauss w) (two b)) (sym (s .bits-are))
       (parts-weaken (cone-parts (s .cone)) (lin (w .x ∷ two (bit-length (gauss w)) ∷ []) (length-law (gauss w) (cone-pos (s .cone)) .above
       & none)
       (search reify depth 20) tt))
 
   pub scale-length : b ≤ F + 11
-  scale-length = subst (λ b. b ≤ F + 11) (sym (s .length)) (omega (arith, length-le (gauss w) (F + 10) (cone-pos (s .cone)) (s .small)))
+  scale-length = subst (λ b. b ≤ F + 11) (sym (s .bits-are)) (omega (arith, length-le (gauss w) (F + 10) (cone-pos (s .cone)) (s .small)))
 
   fits : F ≤ 48 → {x : ℤ} (m : ℕ) → m ≤ F + 11 → Size x (two m) → SFits w64 x
   fits narrow m h l = sfits-size (size-weaken l (two-mono m 59 (omega arith))) tt
@@ -101,7 +101,7 @@ module _ {F : ℕ} {w : Point} {b : ℕ} (s : ScalePre F w b) where
     x = fits narrow F (omega arith) (grown (scale-parts .re));
     y = fits narrow F (omega arith) (grown (scale-parts .im));
     made = ap point (gi-path (*ℤ-comm (w .x) k ∙ sym (scaled-re k (gauss w))) (*ℤ-comm (w .y) k ∙ sym (scaled-im k (gauss w)))
-        ∙ ap (λ b. ιᵍ (two (F - b)) *ᵍ gauss w) (s .length) ∙ sym (scaled-exact F (gauss w) (subst (λ b. b ≤ F) (s .length) h)));
+        ∙ ap (λ b. ιᵍ (two (F - b)) *ᵍ gauss w) (s .bits-are) ∙ sym (scaled-exact F (gauss w) (subst (λ b. b ≤ F) (s .bits-are) h)));
   }
     where
       k : ℤ
@@ -119,11 +119,11 @@ module _ {F : ℕ} {w : Point} {b : ℕ} (s : ScalePre F w b) where
     over-x = fits narrow b scale-length (size-shift (2 ^ (b - F)) (scale-parts .re));
     over-y = fits narrow b scale-length (size-shift (2 ^ (b - F)) (scale-parts .im));
     made = ap₂ (λ z b. point (floorᵍ z (down F b)))
-        (sym (ap (λ u. ιᵍ (pos u) *ᵍ gauss w) one ∙ (g-mul-comm (ιᵍ (pos 1)) (gauss w) ∙ g-mul-one (gauss w)))) (s .length);
+        (sym (ap (λ u. ιᵍ (pos u) *ᵍ gauss w) one ∙ (g-mul-comm (ιᵍ (pos 1)) (gauss w) ∙ g-mul-one (gauss w)))) (s .bits-are);
   }
     where
       nothing : F - bit-length (gauss w) ≡ 0
-      nothing = omega (arith, subst (λ b. F < b) (s .length) h)
+      nothing = omega (arith, subst (λ b. F < b) (s .bits-are) h)
 
       one : up F (bit-length (gauss w)) ≡ 1
       one = ap (λ t. 2 ^ t) nothing ∙ pow-zero 2
@@ -237,7 +237,7 @@ module _ {F : ℕ} (wide : 11 ≤ F) {n : ℕ} {p : Point} (a : Accepted F (pos 
 
   pub scale-ok : ScalePre F (point (turned (gauss p))) (bits (natAbs (turned (gauss p) .re)))
   unfolding bit-length
-  scale-ok = record { cone = cone F wide a; small = small; length = refl }
+  scale-ok = record { cone = cone F wide a; small = small; bits-are = refl }
 
   pub bound-ok : BoundPre F n (turned (gauss p) .re)
   bound-ok = record {

@@ -23,7 +23,7 @@ module _ (U Z t n up down B δ P x : ℤ) (w w′ v Q g : 𝔾)
     (w-size : Parts w x)
     (scale : Parts (ιᵍ up *ᵍ w -ᵍ ιᵍ down *ᵍ w′) down)
     (rest : Parts (v -ᵍ ιᵍ U) (pos 3 *ℤ t))
-    (length : Within (ιᵍ (pos 4) *ᵍ Q) (pos 11 *ℤ δ))
+    (Q-size : Within (ιᵍ (pos 4) *ᵍ Q) (pos 11 *ℤ δ))
     (rounded : Within (ιᵍ δ *ᵍ v -ᵍ Q *ᵍ w′) (drift-a-step *ℤ n *ℤ δ))
     (tabled : Within (ιᵍ (pos 128 *ℤ Z) *ᵍ (Q *ᵍ g -ᵍ ιᵍ δ *ᵍ ιᵍ P)) (n *ℤ (δ *ℤ P))) where
   t≥0 : pos 0 ⩽ t
@@ -50,7 +50,7 @@ module _ (U Z t n up down B δ P x : ℤ) (w w′ v Q g : 𝔾)
   unfolding Ω r c
   Ω-size = subst (λ z. Within z (down *ℤ δ *ℤ r)) (ring! 𝔾R (ιᵍ up ∷ ιᵍ down ∷ ιᵍ δ ∷ ιᵍ U ∷ w ∷ w′ ∷ v ∷ Q ∷ [])
       (search reifyᵍ depth 20 fits 4000) tt)
-      (within-weaken (within-add (within-sub (within-mul (parts-within scale) length)
+      (within-weaken (within-add (within-sub (within-mul (parts-within scale) Q-size)
       (within-scale (pos 280 *ℤ down) (nonneg-mul (nonneg-pos 280) (nonneg down≥1)) rounded))
       (within-scale (pos 4 *ℤ (down *ℤ δ)) (nonneg-mul (nonneg-pos 4) (nonneg c≥1)) (parts-within rest)))
       (lin (down ∷ δ ∷ n ∷ t ∷ []) none (search reify depth 20) tt))

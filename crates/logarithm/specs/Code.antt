@@ -31,7 +31,7 @@ pub record Cone (w : 𝔾) : Type 0 where
 pub record ScalePre (F : ℕ) (w : Point) (b : ℕ) : Type 0 where
   pub cone : Cone (gauss w)
   pub small : w .x ⩽ two (F + 10)
-  pub length : b ≡ bit-length (gauss w)
+  pub bits-are : b ≡ bit-length (gauss w)
 
 pub record ReducePre (F : ℕ) (p : Point) (c : Entry) : Type 0 where
   pub point : Parts (gauss p) (two F)

@@ -13,7 +13,7 @@ use Rattle.point.specs.Limits.{inSteps, inBox, inParts}
 use Rattle.answer.specs.Record.{recordOf}
 use Rattle.exponential.specs.Answer.{answer, expAnswer}
 use Rattle.logarithm.specs.Answer.{isZero, answer as log-answer, logAnswer}
-use Rattle.edges.proofs.Quoted.{kernel-one}
+use Rattle.edges.proofs.Quoted.{quoted-line}
 use Rattle.text.specs.declared.Line.the-variants.{Exp, Log}
 use Rattle.text.specs.Line.{EXP, REF, kindLine, lineOf, readLine}
 use Rattle.text.specs.Answer.{replyOf, reply}
@@ -67,7 +67,7 @@ no-steps = refl
 
 answer₁ : answerLine initial line₁ .bytes ≡ lineBytes (pos 1) EXP (pos 40 ∷ pos (2 ^ 48) ∷ pos 0 ∷ pos 2168 ∷ [])
 unfolding answerLine reply replyOf
-answer₁ = ap (λ l. replyOf l .bytes) exp₁ ∙ rw kernel-one
+answer₁ = ap (λ l. replyOf l .bytes) exp₁ ∙ rw quoted-line
 
 answer₂ : answerLine initial line₂ .bytes ≡ lineBytes (pos 2) REF (pos 4 ∷ [])
 unfolding answerLine reply replyOf

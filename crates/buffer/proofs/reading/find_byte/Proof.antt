@@ -50,25 +50,30 @@ past-one : (c : tie.Else2 Inv-loop μ-loop Inv-loop2 μ-loop2) → let l = c .be
     findByte (sought l) (bytes l) (i l + 1) ≡ findByte (sought l) (bytes l) (from l)
 past-one c =
     let l = c .before .before .before in
-    search-more (sought l) (bytes l) (from l) (i l) (l .loop .inv .1) (i l + 1) (omega arith) (omega arith) (c .if2 .left)
+    search-more (sought l) (bytes l) (from l) (i l) (l .loop .inv .1) (i l + 1)
+    (omega arith) (omega arith) (c .if2 .left)
 
 past-two : (c : tie.Else3 Inv-loop μ-loop Inv-loop2 μ-loop2) → let l = c .before .before .before .before .before in
     findByte (sought l) (bytes l) (i l + 2) ≡ findByte (sought l) (bytes l) (from l)
 past-two c =
     let l = c .before .before .before .before .before in
-    search-more (sought l) (bytes l) (from l) (i l + 1) (past-one (c .before .before)) (i l + 2) (omega arith) (omega arith) (c .if3 .left)
+    search-more (sought l) (bytes l) (from l) (i l + 1) (past-one (c .before .before)) (i l + 2)
+    (omega arith) (omega arith) (c .if3 .left)
 
 past-three : (c : tie.Else4 Inv-loop μ-loop Inv-loop2 μ-loop2) → let l = c .before .before .before .before .before .before .before in
     findByte (sought l) (bytes l) (i l + 3) ≡ findByte (sought l) (bytes l) (from l)
 past-three c =
     let l = c .before .before .before .before .before .before .before in
-    search-more (sought l) (bytes l) (from l) (i l + 2) (past-two (c .before .before)) (i l + 3) (omega arith) (omega arith) (c .if4 .left)
+    search-more (sought l) (bytes l) (from l) (i l + 2) (past-two (c .before .before)) (i l + 3)
+    (omega arith) (omega arith) (c .if4 .left)
 
-past-four : (c : tie.Else5 Inv-loop μ-loop Inv-loop2 μ-loop2) → let l = c .before .before .before .before .before .before .before .before .before in
+past-four : (c : tie.Else5 Inv-loop μ-loop Inv-loop2 μ-loop2) →
+    let l = c .before .before .before .before .before .before .before .before .before in
     findByte (sought l) (bytes l) (i l + 4) ≡ findByte (sought l) (bytes l) (from l)
 past-four c =
     let l = c .before .before .before .before .before .before .before .before .before in
-    search-more (sought l) (bytes l) (from l) (i l + 3) (past-three (c .before .before)) (i l + 4) (omega arith) (omega arith) (c .if5 .left)
+    search-more (sought l) (bytes l) (from l) (i l + 3) (past-three (c .before .before)) (i l + 4)
+    (omega arith) (omega arith) (c .if5 .left)
 
 shared-slice-read-if2 : tie.Need-shared-slice-read-if2 Inv-loop μ-loop Inv-loop2 μ-loop2
 shared-slice-read-if2 c = omega arith

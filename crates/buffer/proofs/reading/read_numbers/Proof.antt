@@ -101,7 +101,8 @@ loop-again c =
     let s = l .before .before in
     let stored = number-stored (s .args .s .now) (l .loop .into) _ (l .loop .i) (l .loop .next) _ (z k) (omega arith) (l .loop .inv .1)
     (read k .before .if1 .left) (field k) (number k) in
-    (omega arith, simp length-set (l .loop .inv .1), rw (back (sfits-mag (z k) (c .known-told .given .0 .1))) (sym stored ∙ l .loop .inv .2))
+    let same = back (sfits-mag (z k) (c .known-told .given .0 .1)) in
+    (omega arith, simp length-set (l .loop .inv .1), rw same (sym stored ∙ l .loop .inv .2))
 
 same-length-3 : tie.Need-same-length-3 Inv-loop μ-loop
 same-length-3 c = search needs
