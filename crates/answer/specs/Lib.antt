@@ -1,5 +1,3 @@
--- What both operations answer. Read beside 01:
---   Refusal   each refusal's number, and an answer that is turned away unless a test holds
---   Record    the six numbers of an answer, and a name for the place of each
+-- What both operations answer: refusals with their numbers, and the six numbers of an answer's record. Read beside 01 in this order.
 pub mod Refusal
 pub mod Record
