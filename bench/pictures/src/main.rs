@@ -4,7 +4,7 @@
 
 mod calls;
 mod error;
-mod kernel;
+mod outline;
 mod svg;
 
 use std::{env, fs, io, path::PathBuf};
@@ -13,5 +13,5 @@ fn main() -> io::Result<()> {
     let docs = concat!(env!("CARGO_MANIFEST_DIR"), "/../../docs");
     let folder = env::args_os().nth(1).map_or_else(|| docs.into(), PathBuf::from);
     fs::write(folder.join("error.svg"), error::picture())?;
-    fs::write(folder.join("kernel.svg"), kernel::picture())
+    fs::write(folder.join("outline.svg"), outline::picture())
 }

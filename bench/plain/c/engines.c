@@ -39,7 +39,7 @@ struct answer engine_exp(int64_t n, int64_t ex, int64_t ey, int64_t sx, int64_t 
         ex -= entry.re;
         ey -= entry.im;
     }
-    return (struct answer){.x = x, .y = y, .column = share(8, sx, sy, n) + 3 * n};
+    return (struct answer){.x = x, .y = y, .bound = share(8, sx, sy, n) + 3 * n};
 }
 
 struct answer engine_log(int64_t n, int64_t px, int64_t py) {
@@ -83,7 +83,7 @@ struct answer engine_log(int64_t n, int64_t px, int64_t py) {
         answer_x -= entry.re;
         answer_y -= entry.im;
     }
-    return (struct answer){.x = answer_x, .y = answer_y, .k = k, .q = q, .column = share(3, px, py, n)};
+    return (struct answer){.x = answer_x, .y = answer_y, .k = k, .q = q, .bound = share(3, px, py, n)};
 }
 
 /* A machine that stores the low byte first holds a record as it is. */

@@ -58,8 +58,8 @@ static char *put_number(char *at, int64_t value) {
     return at;
 }
 
-static char *put_line(char *at, int64_t kernel, const char *word, const int64_t *values, int count) {
-    at = put_number(at, kernel);
+static char *put_line(char *at, int64_t serial, const char *word, const int64_t *values, int count) {
+    at = put_number(at, serial);
     *at++ = '\t';
     memcpy(at, word, 3);
     at += 3;
@@ -71,27 +71,27 @@ static char *put_line(char *at, int64_t kernel, const char *word, const int64_t 
     return at;
 }
 
-static char *put_refusal(char *at, int64_t kernel, int64_t refusal) {
-    return put_line(at, kernel, "REF", &refusal, 1);
+static char *put_refusal(char *at, int64_t serial, int64_t refusal) {
+    return put_line(at, serial, "REF", &refusal, 1);
 }
 
 static char *answer_line(const char *at, const char *end, char *out) {
-    int64_t kernel, v[5];
-    if (!read_number(&at, end, &kernel) || kernel < 1 || kernel > 9999999 || !read_tab(&at, end) || end - at < 3)
+    int64_t serial, v[5];
+    if (!read_number(&at, end, &serial) || serial < 1 || serial > 9999999 || !read_tab(&at, end) || end - at < 3)
         return put_refusal(out, 0, 5);
     const char *kind = at;
     at += 3;
     if (memcmp(kind, "EXP", 3) == 0 && read_numbers(at, end, 5, v)) {
         struct answer a = engine_exp(v[0], v[1], v[2], v[3], v[4]);
         if (a.refusal != 0)
-            return put_refusal(out, kernel, a.refusal);
-        return put_line(out, kernel, "EXP", (int64_t[]){v[0], a.x, a.y, a.column}, 4);
+            return put_refusal(out, serial, a.refusal);
+        return put_line(out, serial, "EXP", (int64_t[]){v[0], a.x, a.y, a.bound}, 4);
     }
     if (memcmp(kind, "LOG", 3) == 0 && read_numbers(at, end, 3, v)) {
         struct answer a = engine_log(v[0], v[1], v[2]);
         if (a.refusal != 0)
-            return put_refusal(out, kernel, a.refusal);
-        return put_line(out, kernel, "LOG", (int64_t[]){v[0], a.x, a.y, a.k, a.q, a.column}, 6);
+            return put_refusal(out, serial, a.refusal);
+        return put_line(out, serial, "LOG", (int64_t[]){v[0], a.x, a.y, a.k, a.q, a.bound}, 6);
     }
     return put_refusal(out, 0, 5);
 }

@@ -18,7 +18,7 @@ pub struct Figures {
     pub y: i64,
     pub k: i64,
     pub q: i64,
-    pub column: i64,
+    pub bound: i64,
 }
 
 const ONE: i64 = 1 << 48;
@@ -71,7 +71,7 @@ pub fn exp(n: i64, ex: i64, ey: i64, sx: i64, sy: i64) -> Result<Figures, Refusa
         ex -= re;
         ey -= im;
     }
-    Ok(Figures { x, y, k: 0, q: 0, column: share(8, sx, sy, n) + 3 * n })
+    Ok(Figures { x, y, k: 0, q: 0, bound: share(8, sx, sy, n) + 3 * n })
 }
 
 pub fn log(n: i64, px: i64, py: i64) -> Result<Figures, Refusal> {
@@ -112,7 +112,7 @@ pub fn log(n: i64, px: i64, py: i64) -> Result<Figures, Refusal> {
         answer_x -= re;
         answer_y -= im;
     }
-    Ok(Figures { x: answer_x, y: answer_y, k, q, column: share(3, px, py, n) })
+    Ok(Figures { x: answer_x, y: answer_y, k, q, bound: share(3, px, py, n) })
 }
 
 /// What the C calls write and hand back.
@@ -121,7 +121,7 @@ fn write_record(answer: Result<Figures, Refusal>, out: &mut [u8]) -> i64 {
         return Refusal::Buffer as i64;
     }
     let numbers = match answer {
-        Ok(f) => [0, f.x, f.y, f.k, f.q, f.column],
+        Ok(f) => [0, f.x, f.y, f.k, f.q, f.bound],
         Err(refusal) => [refusal as i64, 0, 0, 0, 0, 0],
     };
     for (bytes, number) in out.chunks_exact_mut(8).zip(numbers) {

@@ -30,36 +30,36 @@ fn numbers<'a, const COUNT: usize>(
     fields.next().is_none().then_some(values)
 }
 
-/// The kernel number and the call of a well-formed line.
+/// The serial and the call of a well-formed line.
 fn parse(line: &[u8]) -> Option<(i64, Call)> {
     let mut fields = line.split(|&byte| byte == b'\t');
-    let kernel = number(fields.next()?).filter(|k| (1..=9_999_999).contains(k))?;
+    let serial = number(fields.next()?).filter(|k| (1..=9_999_999).contains(k))?;
     let call = match fields.next()? {
         b"EXP" => Call::Exp(numbers(fields)?),
         b"LOG" => Call::Log(numbers(fields)?),
         _ => return None,
     };
-    Some((kernel, call))
+    Some((serial, call))
 }
 
 /// The answer to one line, its newline included.
 pub fn answer_line(line: &[u8], out: &mut impl Write) -> io::Result<()> {
-    let refuse = |out: &mut _, kernel: i64, refusal: Refusal| {
-        Write::write_fmt(out, format_args!("{kernel}\tREF\t{}\n", refusal as i64))
+    let refuse = |out: &mut _, serial: i64, refusal: Refusal| {
+        Write::write_fmt(out, format_args!("{serial}\tREF\t{}\n", refusal as i64))
     };
     match parse(line) {
         None => refuse(out, 0, Refusal::Line),
-        Some((kernel, Call::Exp([n, ex, ey, sx, sy]))) => match exp(n, ex, ey, sx, sy) {
-            Ok(Figures { x, y, column, .. }) => {
-                writeln!(out, "{kernel}\tEXP\t{n}\t{x}\t{y}\t{column}")
+        Some((serial, Call::Exp([n, ex, ey, sx, sy]))) => match exp(n, ex, ey, sx, sy) {
+            Ok(Figures { x, y, bound, .. }) => {
+                writeln!(out, "{serial}\tEXP\t{n}\t{x}\t{y}\t{bound}")
             }
-            Err(refusal) => refuse(out, kernel, refusal),
+            Err(refusal) => refuse(out, serial, refusal),
         },
-        Some((kernel, Call::Log([n, x, y]))) => match log(n, x, y) {
-            Ok(Figures { x, y, k, q, column }) => {
-                writeln!(out, "{kernel}\tLOG\t{n}\t{x}\t{y}\t{k}\t{q}\t{column}")
+        Some((serial, Call::Log([n, x, y]))) => match log(n, x, y) {
+            Ok(Figures { x, y, k, q, bound }) => {
+                writeln!(out, "{serial}\tLOG\t{n}\t{x}\t{y}\t{k}\t{q}\t{bound}")
             }
-            Err(refusal) => refuse(out, kernel, refusal),
+            Err(refusal) => refuse(out, serial, refusal),
         },
     }
 }

@@ -3,7 +3,7 @@
 
 use compare::{expected, numbers, observed};
 use reference::edges::{
-    exp_records, exp_refusals, figure_digits, log_columns, log_one_digits, log_reductions,
+    exp_records, exp_refusals, figure_digits, log_bounds, log_one_digits, log_reductions,
     log_refusals, EXP, LOG, ONE,
 };
 use reference::exponential::{self, exp, Input as Exp, CUT};
@@ -58,9 +58,9 @@ fn records_of_exp() {
 }
 
 #[test]
-fn columns_of_log() {
-    for (input, column) in log_columns() {
-        assert_eq!(log_record(input)[5], column, "{input:?}");
+fn bounds_of_log() {
+    for (input, bound) in log_bounds() {
+        assert_eq!(log_record(input)[5], bound, "{input:?}");
     }
 }
 

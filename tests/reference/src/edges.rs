@@ -117,15 +117,15 @@ pub fn exp_records() -> Vec<(Exp, [i64; 6])> {
 }
 
 /// The columns of LOG likewise.
-pub fn log_columns() -> Vec<(Log, i64)> {
+pub fn log_bounds() -> Vec<(Log, i64)> {
     let mut cases = Vec::new();
     for n in 3..=40 {
         let even = 1 << n;
-        for (m, column) in
+        for (m, bound) in
             [(even - 1, 3), (even, 3), (even + 1, 4), (MAX_PART, 3 * (MAX_PART >> n))]
         {
             for (x, y) in [(m, 0), (-m, 1), (1, m), (0, -m)] {
-                cases.push((Log { n, x, y }, column));
+                cases.push((Log { n, x, y }, bound));
             }
         }
     }

@@ -3,7 +3,7 @@
 use reference::answer::record;
 use reference::damage::tabs;
 use reference::edges::{
-    exp_records, exp_refusals, figure_digits, log_columns, log_one_digits, log_reductions,
+    exp_records, exp_refusals, figure_digits, log_bounds, log_one_digits, log_reductions,
     log_refusals, LOG,
 };
 use reference::exponential::{exp, steps, CUT};
@@ -48,9 +48,9 @@ fn records_of_exp() {
 }
 
 #[test]
-fn columns_of_log() {
-    for (input, column) in log_columns() {
-        assert_eq!(record(log(input, W))[5], column, "{input:?}");
+fn bounds_of_log() {
+    for (input, bound) in log_bounds() {
+        assert_eq!(record(log(input, W))[5], bound, "{input:?}");
     }
 }
 
