@@ -134,8 +134,7 @@ pub fn part_{number}(i: usize, place: usize) -> [Entry; 3]
 
 
 def steps_source():
-    about = f"The step table at the width {WIDTH}: a named row for each n and dx, and the look-up among them."
-    out = [source_head(about, "rowAt")]
+    out = [f"// The step table at the width {WIDTH}: a named row for each n and dx. {MADE}\nuse table_numbers::Entry;\n"]
     none = "Entry { re: 0, im: 0 }"
     out.append(f"""
 // What stands outside the table.
@@ -149,11 +148,29 @@ pub const NO_STEP: [Entry; 3] = [
         for place, row in enumerate(rows):
             entries = "".join(f"    {indented(number_fields(e), 1)},\n" for e in row)
             out.append(f"\npub const {step_name(n, place)}: [Entry; 3] = [\n{entries}];\n")
+    return "".join(out)
+
+
+def flat_source():
+    """The rows in six numbers each, and the look-up among them: a `match` over nested constants takes six times as long to check."""
+    out = [f"""// The rows of the step table at the width {WIDTH} in six numbers each, and the look-up among them. {MADE}
+ghost use mathlib.Core.Path.{{_≡_}};
+ghost use Rattle.table_numbers.specs.Rows.{{rowAt}};
+ghost use Rattle.step_table.specs.Code.{{entries}};
+use crate::rows{WIDTH} as t;
+
+const NO_STEP: [i64; 6] = [0, 0, 0, 0, 0, 0];
+"""]
+    for n in range(1, WIDTH - 7):
+        for place in range(3):
+            name = step_name(n, place)
+            numbers = "".join(f"    t::{name}[{dy}].{part},\n" for dy in range(3) for part in ("re", "im"))
+            out.append(f"\nconst {name}: [i64; 6] = [\n{numbers}];\n")
     arms = "".join(f"        {3 * n + place} => {step_name(n, place)},\n" for n in range(1, WIDTH - 7) for place in range(3))
     out.append(f"""
 // Three rows to an n. A `match` over named rows becomes a read-only table, where a constant array would be written out at each call.
-pub fn row_at(index: usize) -> [Entry; 3]
-    ensures {{ λ r. ⌜ r ≡ rowAt index ⌝ }}
+pub fn numbers_at(index: usize) -> [i64; 6]
+    ensures {{ λ r. ⌜ entries r ≡ rowAt index ⌝ }}
 {{
     match index {{
 {arms}        _ => NO_STEP,
@@ -215,7 +232,7 @@ def steps_proof():
     uses = f"""use Rattle.table_numbers.specs.Numbers{WIDTH}.{{stepLogs}}
 use Rattle.table_numbers.specs.Table.{{stepTable}}
 """
-    return arms_proof(("step_table", f"rows{WIDTH}", "row_at"), uses, "stepRow stepTable stepLogs", "rowAt", "other-row", 3 * (WIDTH - 8), "stepRow, rowAt")
+    return arms_proof(("step_table", f"flat{WIDTH}", "numbers_at"), uses, "stepRow stepTable stepLogs", "rowAt", "other-row", 3 * (WIDTH - 8), "stepRow, rowAt")
 
 
 def part_proof(number, first):
@@ -256,9 +273,10 @@ FILES = {
     f"table_numbers/specs/Numbers{WIDTH}.antt": numbers_spec,
     "table_numbers/specs/Reciprocals.antt": reciprocals_spec,
     f"step_table/src/rows{WIDTH}.rt": steps_source,
+    f"step_table/src/flat{WIDTH}.rt": flat_source,
     "reciprocal_table/src/reciprocals.rt": reciprocals_source,
     f"reciprocal_table/src/reciprocal_logs{WIDTH}.rt": reciprocal_logs_source,
-    f"step_table/proofs/rows{WIDTH}/row_at/Proof.antt": steps_proof,
+    f"step_table/proofs/flat{WIDTH}/numbers_at/Proof.antt": steps_proof,
     "reciprocal_table/proofs/reciprocals/reciprocal_at/Proof.antt": reciprocals_proof,
     f"reciprocal_table/proofs/reciprocal_logs{WIDTH}/reciprocal_log_at/Proof.antt": reciprocal_logs_proof,
     f"step_table/src/array{WIDTH}.rt": array_source,

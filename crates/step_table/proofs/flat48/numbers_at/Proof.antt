@@ -1,16 +1,16 @@
--- `step_table::rows48::row_at` meets its contract: in each arm the number is known, and the
+-- `step_table::flat48::numbers_at` meets its contract: in each arm the number is known, and the
 -- specification computes there to what the arm answers. Made by tests/tables/generate.py.
 use mathlib.Core.Path.{sym, ap}
 use Rattle.table_numbers.specs.Numbers48.{stepLogs}
 use Rattle.table_numbers.specs.Table.{stepTable}
 use Rattle.table_numbers.specs.Rows.{stepRow, rowAt}
 use Rattle.table_numbers.proofs.RowLaws.{other-row}
-use Rattle.step_table.proofs.rows48.row_at.Statement.{statement}
-use Rattle.step_table.proofs.rows48.row_at.Tie as tie
+use Rattle.step_table.proofs.flat48.numbers_at.Statement.{statement}
+use Rattle.step_table.proofs.flat48.numbers_at.Tie as tie
 
-pub row-at-spec : {M : Type 1} → statement M
+pub numbers-at-spec : {M : Type 1} → statement M
 unfolding stepRow stepTable stepLogs
-row-at-spec =
+numbers-at-spec =
     tie.close
     (tie.spec
     (λ c. ap rowAt (sym (c .match .keys1)))
