@@ -1,7 +1,7 @@
 -- What the digits of a mode say: of the number that each part was read off, and how LOG's brings the point nearer to one.
 use mathlib.Core.Bool.{Bool, true, false, not, cond}
 use mathlib.Core.List.{[], _∷_}
-use mathlib.Core.Path.{_≡_, ap, ap₂}
+use mathlib.Core.Path.{_≡_, sym, ap, ap₂}
 use Prim.Native.Nat.{ℕ}
 use lib.Dec.{T}
 use lib.IntN.{ℤ, pos, negsuc, negℤ, _+ℤ_, _-ℤ_, _*ℤ_}
@@ -12,7 +12,7 @@ use Rattle.algebra.specs.Size.{Size, Parts}
 use Rattle.algebra.proofs.Reify.{reify}
 use Rattle.algebra.proofs.Order.{tested}
 use Rattle.algebra.proofs.Linear.{lin, lin<, _&_, none}
-use Rattle.word.proofs.Compare.{leZ-true, lt-leZ}
+use Rattle.word.proofs.Compare.{leZ-true, le-leZ, lt-leZ}
 use Rattle.point.specs.Digit.{Trit, t-, t0, t+, IsDigit}
 use Rattle.point.specs.Point.{gauss, point}
 use Rattle.iteration.specs.declared.State.{State}
@@ -65,6 +65,21 @@ back-high t u g h = ap₂ (λ a b. cond a (pos 1) (cond b (negsuc 0) (pos 0))) (
 pub back-mid : (t u : ℤ) → leZ u (negℤ t) ≡ false → leZ t u ≡ false → cut-back t u ≡ pos 0
 unfolding cut-back
 back-mid t u h g = ap₂ (λ a b. cond a (pos 1) (cond b (negsuc 0) (pos 0))) h g
+
+-- the tests with the thresholds around one
+module _ (t one x : ℤ) where
+  abbrev u : ℤ
+  u = x -ℤ one
+
+  pub above-one : leZ (one +ℤ t) x ≡ leZ t u
+  above-one = tested (λ b. b ≡ leZ t u) (one +ℤ t) x
+      (λ h. sym (le-leZ {x = t} {y = u} (lin (t ∷ one ∷ x ∷ []) (h & none) (search reify depth 20) tt)))
+      (λ h. sym (lt-leZ {x = t} {y = u} (lin< (t ∷ one ∷ x ∷ []) (h & none) (search reify depth 20) tt)))
+
+  pub below-one : leZ x (one -ℤ t) ≡ leZ u (negℤ t)
+  below-one = tested (λ b. b ≡ leZ u (negℤ t)) x (one -ℤ t)
+      (λ h. sym (le-leZ {x = u} {y = negℤ t} (lin (t ∷ one ∷ x ∷ []) (h & none) (search reify depth 20) tt)))
+      (λ h. sym (lt-leZ {x = u} {y = negℤ t} (lin< (t ∷ one ∷ x ∷ []) (h & none) (search reify depth 20) tt)))
 
 by-back : (P : ℤ → Type 0) (t u : ℤ) → (u ⩽ negℤ t → P (pos 1)) → (t ⩽ u → P (negsuc 0)) →
     (negℤ t +ℤ pos 1 ⩽ u → u +ℤ pos 1 ⩽ t → P (pos 0)) →

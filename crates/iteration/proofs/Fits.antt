@@ -3,7 +3,7 @@ use mathlib.Core.Path.{_≡_, sym, _∙_, ap, subst}
 use mathlib.Core.List.{[], _∷_}
 use Prim.Native.Nat.{ℕ, suc, _+_, _-_, _^_, _≤_}
 use native.Mathlib.Omega.{arith}
-use lib.IntN.{ℤ, pos, negsuc, _-ℤ_, _*ℤ_}
+use lib.IntN.{ℤ, pos, negsuc, _+ℤ_, _-ℤ_, _*ℤ_}
 use lib.Signed.{shrZ}
 use mir.Syntax.{w64}
 use mir.Val.{SFits, toZ, ofZ}
@@ -18,7 +18,7 @@ use Rattle.algebra.proofs.Parts.{size-add, size-neg, size-mul}
 use Rattle.word.proofs.Fits.{zero-sub, sfits-size, sfits-neg}
 use Rattle.word.proofs.Shift.{shift-constant-word}
 use Rattle.iteration.specs.Select.{low-x, high-x, low-y, high-y, half}
-use Rattle.iteration.specs.Code.{LessPre}
+use Rattle.iteration.specs.Code.{BackPre, LessPre}
 
 -- ---- the thresholds of step n are those of one, shifted
 module _ (F n : ℕ) (narrow : F ≤ 48) (h : n + 8 ≤ F) where
@@ -49,33 +49,27 @@ module _ (F n : ℕ) (narrow : F ≤ 48) (h : n + 8 ≤ F) where
       same : F - 1 - n ≡ F - suc n
       same = omega arith
 
-pub minus-fits : (t : ℤ) → pos 1 ⩽ t → SFits w64 t → SFits w64 (pos 0 -ℤ t)
-minus-fits (pos n) h f = subst (SFits w64) (sym (zero-sub (pos n))) (sfits-neg n (omega (arith, f .sfits)))
-minus-fits (negsuc n) h f = absurd (h .le)
+-- ---- the thresholds around a part of one
+pub record BackFits (t one : ℤ) : Type 0 where
+  pub above : SFits w64 (one +ℤ t)
+  pub below : SFits w64 (one -ℤ t)
 
--- ---- a point less one
-pub record ResidualFits (F : ℕ) (z : 𝔾) : Type 0 where
-  pub x : SFits w64 (z .re)
-  pub y : SFits w64 (z .im)
-  pub less-x : SFits w64 (z .re -ℤ two F)
-  pub less-y : SFits w64 (z .im -ℤ pos 0)
-
-pub residual-fits : (F : ℕ) {z : 𝔾} → F ≤ 48 → Parts z (two 61) → ResidualFits F z
-residual-fits F {z} narrow h = record {
-  x = sfits-size (h .re) tt;
-  y = sfits-size (h .im) tt;
-  less-x = sfits-size (size-add (h .re) (size-neg one)) tt;
-  less-y = sfits-size (size-add (h .im) (size-neg nothing)) tt;
+pub back-fits : {t one : ℤ} → BackPre t one → BackFits t one
+back-fits h = record {
+  above = sfits-size (size-add (h .centre) (h .most)) tt;
+  below = sfits-size (size-add (h .centre) (size-neg (h .most))) tt;
 }
-  where
-    nothing : Size (pos 0) (pos 0)
-    nothing = record { lo = record { le = tt }; hi = record { le = tt } }
 
-    one : Size (two F) (two 48)
-    one = record {
-      lo = lin (two F ∷ two 48 ∷ []) (two-mono F 48 narrow & two≥1 F & none) (search reify depth 20) tt;
-      hi = two-mono F 48 narrow;
-    }
+-- half of 1/2^n around one and around nought
+pub around : (F n : ℕ) → F ≤ 48 → {one : ℤ} → Size one (two 48) → BackPre (half F n) one
+around F n narrow o = record {
+  least = two≥1 _;
+  most = record {
+    lo = lin (half F n ∷ two 48 ∷ []) (two-mono (F - suc n) 48 (omega arith) & two≥1 (F - suc n) & none) (search reify depth 20) tt;
+    hi = two-mono (F - suc n) 48 (omega arith);
+  };
+  centre = o;
+}
 
 -- ---- a sum less an entry
 pub record LessFits (e z : 𝔾) : Type 0 where

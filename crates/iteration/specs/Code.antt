@@ -1,8 +1,10 @@
 -- Only the contracts of private functions cite this: what the parts of a step ask and make.
 use mathlib.Core.List.{List}
 use Prim.Native.Nat.{ℕ, _<_}
+use lib.IntN.{ℤ, pos}
 use Rattle.algebra.specs.Gauss.{𝔾, _-ᵍ_, two}
-use Rattle.algebra.specs.Size.{Parts}
+use Rattle.algebra.specs.Order.{_⩽_}
+use Rattle.algebra.specs.Size.{Size, Parts}
 use Rattle.point.specs.declared.Digit.{Digit}
 use Rattle.point.specs.Digit.{IsDigit}
 use Rattle.point.specs.Point.{gauss, gaussᵈ}
@@ -12,6 +14,12 @@ use Rattle.table_numbers.specs.Listed.{byDigit}
 use Rattle.table_numbers.specs.Rows.{number, none as no-entry}
 use Rattle.iteration.specs.declared.State.{State}
 use Rattle.iteration.specs.Run.{state, Small}
+
+-- a threshold, and the part of one that it lies around
+pub record BackPre (t one : ℤ) : Type 0 where
+  pub least : pos 1 ⩽ t
+  pub most : Size t (two 48)
+  pub centre : Size one (two 48)
 
 -- the sum with and without the entry
 pub record LessPre (e z : 𝔾) : Type 0 where
