@@ -4,10 +4,10 @@ use mathlib.Core.List.{List, [], _∷_, _++_}
 use Prim.Native.Nat.{ℕ, _^_}
 use lib.IntN.{ℤ, pos}
 use Rattle.word.specs.Compare.{between}
-use Rattle.buffer.specs.Decimal.{value, readNatural, readNumber}
-use Rattle.buffer.specs.Fields.{split, sameBytes}
-use Rattle.buffer.specs.Numbers.{numbers}
 use Rattle.buffer.specs.Lines.{lineBytes}
+use Rattle.scan.specs.Decimal.{value, readNatural, readNumber}
+use Rattle.scan.specs.Fields.{split, sameBytes}
+use Rattle.scan.specs.Numbers.{numbers}
 use Rattle.point.specs.declared.Point.{Point}
 use Rattle.point.specs.Limits.{inSteps, inBox, inParts}
 use Rattle.answer.specs.Record.{recordOf}

@@ -11,8 +11,8 @@ use lib.Seq.{slice, take-take, take-suc, drop-cons, length-slice}
 use borrow.Author.Tests.{lt-ltb, le-ltb, ne-eqb}
 use Rattle.buffer.specs.Code.{Put}
 use Rattle.buffer.proofs.Either.{either}
-use Rattle.buffer.proofs.Find.{Without, Ended, parted}
 use Rattle.buffer.proofs.Put.{nothing, then, to-front}
+use Rattle.scan.proofs.Find.{Without, Ended, parted}
 use Rattle.text.specs.Answer.{answer-room}
 use Rattle.stream.specs.Machine.{Machine, Place, newLine, goOn, cut, lineEnd, byteAnswer, byteAfter, answersFrom, placeAfter, readWithin}
 use Rattle.stream.proofs.Pieces.{after-append, answers-append}

@@ -142,14 +142,14 @@ pub fn feed(place: Place, piece: &[u8], out: &mut [u8]) -> Fed
     let mut here = place;
     let mut i: usize = 0;
     let mut written: usize = 0;
-    let mut end = buffer::find_byte(piece, i, 10);
+    let mut end = scan::find_byte(piece, i, 10);
     while end < piece.len() && ANSWER_ROOM <= out.len() - written {
         let a = answer_ended(here, piece, i, end, &mut out[written..]);
         let state = a.state;
         here = new_line(state);
         written = written + a.written;
         i = end + 1;
-        end = buffer::find_byte(piece, i, 10);
+        end = scan::find_byte(piece, i, 10);
     }
     Fed {
         place: extended(here, piece, i, end),

@@ -7,17 +7,17 @@ use native.Mathlib.Omega.{arith}
 use lib.Dec.{T, eqb, lit<}
 use lib.IntN.{ℤ}
 use lib.ListN.{length, length-append}
-use Rattle.buffer.specs.declared.reading.Number.{Number}
-use Rattle.buffer.specs.Decimal.{readNumber}
-use Rattle.buffer.specs.Fields.{split, fields, sameBytes}
-use Rattle.buffer.specs.Numbers.{Numbers, are, none, inFront, numbers}
 use Rattle.buffer.proofs.Either.{either}
 use Rattle.buffer.proofs.Written.{short-range}
-use Rattle.buffer.proofs.Read.{number-is, number-length}
+use Rattle.scan.specs.declared.Number.{Number}
+use Rattle.scan.specs.Decimal.{readNumber}
+use Rattle.scan.specs.Fields.{split, fields, sameBytes}
+use Rattle.scan.specs.Numbers.{Numbers, are, none, inFront, numbers}
+use Rattle.scan.proofs.Read.{number-is, number-length}
 use Rattle.text.specs.declared.Line.{Line}
 use Rattle.text.specs.Line.{longest-line, isSerial, EXP, LOG, formed, expOf, logOf, kindLine, serialLine, lineOf, readLine}
 use Rattle.text.proofs.Serial.{IsSerial}
-use Rattle.buffer.specs.declared.reading.Number.the-variants as num
+use Rattle.scan.specs.declared.Number.the-variants as num
 use Rattle.text.specs.declared.Line.the-variants as line
 
 -- the bytes of some fields, a mark behind each

@@ -6,15 +6,14 @@ use Prim.Native.Nat.{ℕ, _+_, _≤_, _<_}
 use lib.IntN.{ℤ}
 use lib.ListN.{length}
 use lib.Seq.{slice}
-use Rattle.buffer.specs.Decimal.{readNumber}
-use Rattle.buffer.specs.Fields.{sameBytes, fieldsAt}
-use Rattle.buffer.specs.Numbers.{numbers}
-use Rattle.buffer.proofs.Find.{Ended}
-use Rattle.buffer.proofs.Fields.{field-parts, no-field, first-field}
+use Rattle.scan.specs.Decimal.{readNumber}
+use Rattle.scan.specs.Fields.{sameBytes, fieldsAt}
+use Rattle.scan.specs.Numbers.{numbers}
+use Rattle.scan.proofs.Find.{Ended}
+use Rattle.scan.proofs.Fields.{field-parts, no-field, first-field}
 use Rattle.text.specs.declared.Line.{Line}
 use Rattle.text.specs.declared.Line.the-variants.{Malformed}
 use Rattle.text.specs.Line.{EXP, LOG, formed, expOf, logOf, kindLine, serialLine, lineOf, readLine}
-use Rattle.buffer.specs.declared.reading.Number.the-variants as num
 
 -- ---- the first two fields
 pub serial-field : {l : List ℕ} {e : ℕ} → Ended 9 l 0 e → readLine l ≡ serialLine (readNumber (slice 0 e l)) (fieldsAt l (e + 1))

@@ -6,14 +6,15 @@ use native.Mathlib.Omega.{arith}
 use lib.Dec.{lit<}
 use lib.IntN.{ℤ}
 use lib.ListN.{length}
-use Rattle.buffer.specs.Decimal.{showNumber, readNumber}
-use Rattle.buffer.specs.Fields.{split, fields, sameBytes}
-use Rattle.buffer.specs.Numbers.{are, numbers}
+use Rattle.buffer.specs.Decimal.{showNumber}
 use Rattle.buffer.specs.Lines.{fieldBytes, lineBytes}
-use Rattle.buffer.proofs.Find.{Without}
-use Rattle.buffer.proofs.Read.{read-show}
 use Rattle.buffer.proofs.Lines.{AllFit}
-use Rattle.buffer.proofs.Joined.{marked, split-joined, without-append, without-marked, lacks-says, number-without, numbers-without}
+use Rattle.scan.specs.Decimal.{readNumber}
+use Rattle.scan.specs.Fields.{split, fields, sameBytes}
+use Rattle.scan.specs.Numbers.{are, numbers}
+use Rattle.scan.proofs.Find.{Without}
+use Rattle.scan.proofs.Read.{read-show}
+use Rattle.scan.proofs.Joined.{marked, split-joined, without-append, without-marked, lacks-says, number-without, numbers-without}
 use Rattle.point.specs.declared.Point.{Point}
 use Rattle.text.specs.declared.Line.{Line}
 use Rattle.text.specs.Line.{EXP, LOG, kindLine, lineOf, readLine}

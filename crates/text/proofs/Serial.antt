@@ -4,14 +4,14 @@ use mathlib.Core.Bool.{true}
 use mathlib.Core.List.{List, [], _∷_}
 use Prim.Native.Nat.{ℕ}
 use lib.IntN.{ℤ}
-use Rattle.buffer.specs.declared.reading.Number.{Number}
-use Rattle.buffer.specs.Decimal.{readNumber}
-use Rattle.buffer.specs.Fields.{fields, sameBytes}
-use Rattle.buffer.specs.Numbers.{Numbers, are, none, numbers}
 use Rattle.buffer.proofs.Either.{either}
+use Rattle.scan.specs.declared.Number.{Number}
+use Rattle.scan.specs.Decimal.{readNumber}
+use Rattle.scan.specs.Fields.{fields, sameBytes}
+use Rattle.scan.specs.Numbers.{Numbers, are, none, numbers}
 use Rattle.text.specs.declared.Line.{Line}
 use Rattle.text.specs.Line.{isSerial, EXP, LOG, formed, expOf, logOf, kindLine, serialLine, lineOf, readLine}
-use Rattle.buffer.specs.declared.reading.Number.the-variants as num
+use Rattle.scan.specs.declared.Number.the-variants as num
 use Rattle.text.specs.declared.Line.the-variants as line
 
 abbrev pub IsSerial : ℤ → Type 0

@@ -5,14 +5,14 @@ use Prim.Native.Nat.{ℕ}
 use lib.IntN.{ℤ, pos}
 use lib.ListN.{getD}
 use Rattle.word.specs.Compare.{between}
-use Rattle.buffer.specs.declared.reading.Number.{Number}
-use Rattle.buffer.specs.Decimal.{readNumber}
-use Rattle.buffer.specs.Fields.{fields, sameBytes}
-use Rattle.buffer.specs.Numbers.{Numbers, are, none, numbers}
+use Rattle.scan.specs.declared.Number.{Number}
+use Rattle.scan.specs.Decimal.{readNumber}
+use Rattle.scan.specs.Fields.{fields, sameBytes}
+use Rattle.scan.specs.Numbers.{Numbers, are, none, numbers}
 use Rattle.point.specs.declared.Point.{Point}
 use Rattle.text.specs.declared.Line.{Line}
 use Rattle.text.specs.declared.Line.the-variants.{Exp, Log, Malformed}
-use Rattle.buffer.specs.declared.reading.Number.the-variants as num
+use Rattle.scan.specs.declared.Number.the-variants as num
 
 -- ---- the words of the format
 abbrev pub EXP : List ℕ

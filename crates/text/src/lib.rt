@@ -1,16 +1,16 @@
 // Lines of a sheet: a line read, and a read line answered.
 ghost use mathlib.Core.Path.{_≡_};
 ghost use lib.IntN.{pos};
-ghost use Rattle.buffer.specs.Fields.{fieldsAt};
-ghost use Rattle.buffer.specs.Numbers.{numbers};
+ghost use Rattle.scan.specs.Fields.{fieldsAt};
+ghost use Rattle.scan.specs.Numbers.{numbers};
 ghost use Rattle.answer.specs.Record.{recordOf};
 ghost use Rattle.text.specs.Line.{formed, expOf, logOf, kindLine, readLine};
 ghost use Rattle.text.specs.Answer.{refusedReply, answerReply, replyOf, reply, refusalFor, countFor, outFor};
 ghost use Rattle.text.specs.Code.{Replied};
 use answer::Answer;
 use answer::Figures;
-use buffer::Number;
 use point::Point;
+use scan::Number;
 
 // The least room for the answer to a line.
 pub const ANSWER_ROOM: usize = 128;
@@ -50,7 +50,7 @@ fn exp_line(s: &[u8], serial: i64, at: usize) -> Line
     ensures { λ r. ⌜ r ≡ formed (numbers 5 (fieldsAt (now (s .entry)) at)) (expOf serial) ⌝ }
 {
     let mut v = [0i64; 5];
-    if buffer::read_numbers(s, at, &mut v) {
+    if scan::read_numbers(s, at, &mut v) {
         let n = v[0];
         let ex = v[1];
         let ey = v[2];
@@ -71,7 +71,7 @@ fn log_line(s: &[u8], serial: i64, at: usize) -> Line
     ensures { λ r. ⌜ r ≡ formed (numbers 3 (fieldsAt (now (s .entry)) at)) (logOf serial) ⌝ }
 {
     let mut v = [0i64; 3];
-    if buffer::read_numbers(s, at, &mut v) {
+    if scan::read_numbers(s, at, &mut v) {
         let n = v[0];
         let x = v[1];
         let y = v[2];
@@ -91,11 +91,11 @@ fn kind_line(s: &[u8], serial: i64, at: usize) -> Line
     if s.len() < at {
         return Line::Malformed;
     }
-    let f = buffer::find_byte(s, at, 9);
-    if buffer::same_bytes(s, at, f, b"EXP") {
+    let f = scan::find_byte(s, at, 9);
+    if scan::same_bytes(s, at, f, b"EXP") {
         return exp_line(s, serial, f + 1);
     }
-    if buffer::same_bytes(s, at, f, b"LOG") {
+    if scan::same_bytes(s, at, f, b"LOG") {
         return log_line(s, serial, f + 1);
     }
     Line::Malformed
@@ -105,8 +105,8 @@ fn kind_line(s: &[u8], serial: i64, at: usize) -> Line
 pub fn read_line(s: &[u8]) -> Line
     ensures { λ r. ⌜ r ≡ readLine (now (s .entry)) ⌝ }
 {
-    let e = buffer::find_byte(s, 0, 9);
-    let Number::Is(serial) = buffer::read_number(s, 0, e) else {
+    let e = scan::find_byte(s, 0, 9);
+    let Number::Is(serial) = scan::read_number(s, 0, e) else {
         return Line::Malformed;
     };
     if serial < 1 {

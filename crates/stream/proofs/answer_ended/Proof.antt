@@ -3,7 +3,7 @@ use mathlib.Core.Path.{_≡_, ap, _∙_}
 use native.Mathlib.Omega.{arith}
 use borrow.Author.Needs.{needs}
 use lib.Seq.{slice}
-use Rattle.buffer.proofs.Find.{part-slice}
+use Rattle.scan.proofs.Find.{part-slice}
 use Rattle.stream.specs.declared.State.{State}
 use Rattle.stream.specs.Machine.{Place, goOn, lineEnd}
 use Rattle.stream.specs.Sheet.{machine, placeOf}

@@ -8,9 +8,9 @@ use borrow.Author.Needs.{needs}
 use borrow.Author.Tests.{leb-true, leb-false}
 use lib.ListN.{length}
 use borrow.Rule.Slice.PartMut.{putMid}
-use Rattle.buffer.specs.Find.{findByte}
-use Rattle.buffer.proofs.Find.{Ended, ended}
 use Rattle.buffer.proofs.Put.{kept}
+use Rattle.scan.specs.Find.{findByte}
+use Rattle.scan.proofs.Find.{Ended, ended}
 use Rattle.text.specs.Answer.{answer-room}
 use Rattle.stream.specs.declared.State.{State}
 use Rattle.stream.specs.Machine.{Place, newLine}

@@ -6,9 +6,9 @@ use native.Mathlib.Omega.{arith}
 use lib.Seq.{slice}
 use borrow.Author.Needs.{needs}
 use Rattle.word.proofs.Fits.{back}
-use Rattle.buffer.specs.Fields.{fieldsAt, sameBytes}
-use Rattle.buffer.proofs.Find.{Ended, ended}
-use Rattle.buffer.proofs.Fields.{same-word}
+use Rattle.scan.specs.Fields.{fieldsAt, sameBytes}
+use Rattle.scan.proofs.Find.{Ended, ended}
+use Rattle.scan.proofs.Fields.{same-word}
 use Rattle.text.specs.Line.{EXP, LOG, kindLine}
 use Rattle.text.proofs.Parse.{kind-missing, kind-field, byKind}
 use Rattle.text.proofs.kind_line.Statement.{statement}

@@ -12,8 +12,8 @@ use Rattle.algebra.specs.Order.{_⩽_, _⋖_}
 use Rattle.word.specs.Compare.{between}
 use Rattle.word.proofs.Fits.{back, sfits-mag}
 use Rattle.word.proofs.Compare.{ltZ-true, ltZ-false, is-between, below-between, above-between}
-use Rattle.buffer.specs.Fields.{fieldsAt}
-use Rattle.buffer.proofs.Find.{Ended, ended}
+use Rattle.scan.specs.Fields.{fieldsAt}
+use Rattle.scan.proofs.Find.{Ended, ended}
 use Rattle.text.specs.declared.Line.the-variants.{Malformed}
 use Rattle.text.specs.Line.{readLine, serialLine, kindLine}
 use Rattle.text.proofs.Parse.{serial-field}
