@@ -28,8 +28,18 @@ fn written_tables() -> [(&'static str, &'static str, &'static [usize], String); 
     };
     [
         ("ln(1 + d/2^n) by n - 1, dx + 1, dy + 1", "STEPS", &[40, 3, 3], steps),
-        ("the seats times 64, by (X - 17)/2 and (Y + 31)/2", "SEATS", &[8, 32], cells(&reciprocal)),
-        ("their logarithms", "SEAT_LOGS", &[8, 32], cells(&|x, y| tables.reciprocal_log(x, y))),
+        (
+            "the reciprocals times 64, by (X - 17)/2 and (Y + 31)/2",
+            "RECIPROCALS",
+            &[8, 32],
+            cells(&reciprocal),
+        ),
+        (
+            "their logarithms",
+            "RECIPROCAL_LOGS",
+            &[8, 32],
+            cells(&|x, y| tables.reciprocal_log(x, y)),
+        ),
     ]
 }
 

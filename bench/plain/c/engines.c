@@ -70,8 +70,8 @@ struct answer engine_log(int64_t n, int64_t px, int64_t py) {
     }
     /* Cells have side 1/16; X = 17 is the first, from 8/16 on, and Y = -31 from -16/16 on. */
     int64_t across = (wx >> 44) - 8, up = (wy >> 44) + 16;
-    struct entry seat = SEATS[across][up], log = SEAT_LOGS[across][up];
-    int64_t x = (seat.re * wx - seat.im * wy) >> 6, y = (seat.re * wy + seat.im * wx) >> 6;
+    struct entry inverse = RECIPROCALS[across][up], log = RECIPROCAL_LOGS[across][up];
+    int64_t x = (inverse.re * wx - inverse.im * wy) >> 6, y = (inverse.re * wy + inverse.im * wx) >> 6;
     int64_t answer_x = -log.re, answer_y = -log.im;
     for (int64_t i = 3; i <= n; i++) {
         int64_t half = (ONE / 2) >> i, u = x - ONE;

@@ -1,6 +1,6 @@
 //! EXP and LOG, and the record of 48 bytes that the C calls fill.
 
-use crate::tables::{SEATS, SEAT_LOGS, STEPS};
+use crate::tables::{RECIPROCALS, RECIPROCAL_LOGS, STEPS};
 
 #[derive(Clone, Copy, PartialEq, Eq, Debug)]
 pub enum Refusal {
@@ -99,9 +99,9 @@ pub fn log(n: i64, px: i64, py: i64) -> Result<Figures, Refusal> {
     let (wx, wy) = (scale(wx), scale(wy));
     // Cells have side 1/16; X = 17 is the first, from 8/16 on, and Y = -31 from -16/16 on.
     let (across, up) = ((wx >> 44) as usize - 8, ((wy >> 44) + 16) as usize);
-    let (a, b) = SEATS[across][up];
+    let (a, b) = RECIPROCALS[across][up];
     let (mut x, mut y) = ((a * wx - b * wy) >> 6, (a * wy + b * wx) >> 6);
-    let (re, im) = SEAT_LOGS[across][up];
+    let (re, im) = RECIPROCAL_LOGS[across][up];
     let (mut answer_x, mut answer_y) = (-re, -im);
     for (i, entries) in steps(3, n) {
         let half = (ONE / 2) >> i;

@@ -14,10 +14,10 @@ use reference::width::WIDTH_48 as W;
 enum Fault {
     /// None.
     Right,
-    /// A quotient cut towards zero: in a step, in LOG's scale, in the product with the seat.
+    /// A quotient cut towards zero: in a step, in LOG's scale, in the product with the reciprocal.
     StepCut,
     ScaleCut,
-    SeatCut,
+    ProductCut,
     /// The new x used in making the new y.
     NewX,
     /// The half before the real logarithm lost.
@@ -79,7 +79,7 @@ impl Fault {
         let scaled = point(scale(turned.x), scale(turned.y));
         let [cx, cy] = [scaled.x, scaled.y].map(|part| 2 * (part >> 44) + 1);
         let product = scaled.times(reciprocal(cx, cy));
-        let [x, y] = [product.x, product.y].map(|part| self.quotient(part, 6, SeatCut));
+        let [x, y] = [product.x, product.y].map(|part| self.quotient(part, 6, ProductCut));
         let (mut near_one, mut answer) =
             (point(x, y), point(0, 0) - tables(W).reciprocal_log(cx, cy));
         for n in logarithm::FIRST_STEP..=input.n as u32 {
@@ -181,7 +181,7 @@ fn random_inputs() {
         println!("EXP, {fault:?}: {shown} of {SAMPLES}");
         assert!(shown > SAMPLES / 1000);
     }
-    for fault in [StepCut, ScaleCut, SeatCut, NewX, HalfLost, MinusSquares] {
+    for fault in [StepCut, ScaleCut, ProductCut, NewX, HalfLost, MinusSquares] {
         let inputs = (0..SAMPLES).map(|_| log_input(&mut random, W));
         let shown = inputs.filter(|&input| {
             product_log(input).is_some_and(|seen| {
