@@ -1,4 +1,7 @@
 -- `text::log_line` meets its contract: so many numbers, each in its place.
+use Prim.Native.Nat.{ℕ}
+use lib.IntN.{ℤ, pos}
+use lib.ListN.{getD}
 use borrow.Author.Needs.{needs}
 use Rattle.word.proofs.Fits.{back, sfits-mag}
 use Rattle.text.proofs.log_line.Statement.{statement}
@@ -23,12 +26,13 @@ returns : tie.Need-returns
 returns c =
     let r = c .before .before .before .before .before in
     let s = r .before .before .before in
+    let at : ℕ → ℤ = λ i. getD (r .read-numbers .last .1 .1 .0) i (pos 0) in
     rw (
       rw (c .before .before .before .if1 .taken) at (r .read-numbers .ensures),
       back (s .fits .serial),
-      back (sfits-mag _ (c .before .before .n .given)),
-      back (sfits-mag _ (c .before .x .given)),
-      back (sfits-mag _ (c .y .given)),
+      back (sfits-mag (at 0) (c .before .before .n .given)),
+      back (sfits-mag (at 1) (c .before .x .given)),
+      back (sfits-mag (at 2) (c .y .given)),
     )
 
 returns-2 : tie.Need-returns-2
