@@ -36,11 +36,14 @@ fn accepted(n: usize, p: Point) -> Figures
     let m = w.x;
     let b = reduction::bit_length(m);
     let s = iteration::run(Mode::Log, 2, n, reduction::begun(w, b));
-    let value = s.sum;
+    let sum = s.sum;
+    // part by part, so that nothing is copied in between
+    let x = sum.x;
+    let y = sum.y;
     let binary_exponent = (b as i64) - 48;
     let error_bound = error_bound(n, m);
     Figures {
-        value,
+        value: Point { x, y },
         binary_exponent,
         quadrant,
         error_bound,

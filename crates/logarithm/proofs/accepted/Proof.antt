@@ -48,13 +48,13 @@ ran : (c : tie.After-run) → let s = start (c .before .before .before) .args in
     c .run .result ≡ ended 48 stepTable reciprocalTable (s .n) (turned (gauss (s .p)))
 ran c = c .run .ensures ∙ ap (run 48 stepTable Log 2 (start (c .before .before .before) .args .n - 2)) (begun-is (c .before))
 
-abbrev lengthened : tie.After-value → tie.After-bit-length
-lengthened c = c .before .before .before
+abbrev lengthened : tie.After-struct-told4 → tie.After-bit-length
+lengthened c = c .before .before .before .before .before
 
-word-is : (c : tie.After-value) → toZ w64 (lengthened c .bit-length .result) ≡ pos (lengthened c .bit-length .result)
+word-is : (c : tie.After-struct-told4) → toZ w64 (lengthened c .bit-length .result) ≡ pos (lengthened c .bit-length .result)
 word-is c = word-pos (lengthened c .bit-length .result) (omega (arith, scale-length (scalable (lengthened c))))
 
-exponent-fit : (c : tie.After-value) → SFits w64 (toZ w64 (lengthened c .bit-length .result) -ℤ pos 48)
+exponent-fit : (c : tie.After-struct-told4) → SFits w64 (toZ w64 (lengthened c .bit-length .result) -ℤ pos 48)
 exponent-fit c = subst (λ b. SFits w64 (b -ℤ pos 48)) (sym (word-is c)) (exponent-fits (scalable (lengthened c)) (lit≤ tt))
 
 -- ---- the contract
@@ -62,18 +62,20 @@ returns : tie.Need-returns
 unfolding binary-exponent bit-length
 returns c =
     let u = c .before in
-    let r = u .before in
+    let r = u .before .before .before in
     let l = lengthened u in
     let t = l .before in
     let s = start t in
     let n = s .args .n in
-    let value = ap (λ (e : State). e .sum) (ran r) in
+    let sum = ap (λ (e : State). e .sum) (ran r) in
+    let x = back (sfits-mag (r .run .result .sum .x) (u .before .struct-told3 .given .0 .1)) ∙ ap (λ (p : Point). p .x) sum in
+    let y = back (sfits-mag (r .run .result .sum .y) (u .struct-told4 .given .1 .0 .1)) ∙ ap (λ (p : Point). p .y) sum in
     let k = back (exponent-fit u) ∙ (ap (λ b. b -ℤ pos 48) (word-is u ∙ ap pos (length-is l))) in
     let q = back (sfits-mag (t .before .before .before .turned .result .quadrant) (t .before .struct-told .given .1 .0 .1))
     ∙ ap (λ (e : Turn). e .quadrant) (t .before .before .before .turned .ensures) in
     let b = back (sfits-mag (c .error-bound .result) (c .error-bound .ok))
     ∙ (c .error-bound .ensures ∙ (ap (boundAt n) (x-is t) ∙ bound-made (lit≤ tt) (s .pre))) in
-    λ i. record { value = value i; «binary_exponent» = k i; quadrant = q i; «error_bound» = b i }
+    λ i. record { value = record { x = x i; y = y i }; «binary_exponent» = k i; quadrant = q i; «error_bound» = b i }
 
 -- ---- the needs
 turned-requires : tie.Need-turned-requires
