@@ -1,9 +1,9 @@
 -- For the code, over a width F up to 48: nothing that its parts make overflows.
-use mathlib.Core.Path.{_≡_, sym, _∙_, ap, subst}
+use mathlib.Core.Path.{_≡_, refl, _∙_, ap}
 use mathlib.Core.List.{[], _∷_}
 use Prim.Native.Nat.{ℕ, suc, _+_, _-_, _^_, _≤_}
 use native.Mathlib.Omega.{arith}
-use lib.IntN.{ℤ, pos, negsuc, _+ℤ_, _-ℤ_, _*ℤ_}
+use lib.IntN.{ℤ, pos, negsuc, negℤ, _+ℤ_, _-ℤ_, _*ℤ_}
 use lib.Signed.{shrZ}
 use mir.Syntax.{w64}
 use mir.Val.{SFits, toZ, ofZ}
@@ -13,41 +13,52 @@ use Rattle.algebra.specs.Size.{Size, Parts}
 use Rattle.algebra.proofs.Integer.{ℤR}
 use Rattle.algebra.proofs.Reify.{ring!, reify}
 use Rattle.algebra.proofs.Linear.{lin, _&_, none}
-use Rattle.algebra.proofs.Power.{two≥1, two-mono}
+use Rattle.algebra.proofs.Power.{two≥1, two-mono, two-part}
 use Rattle.algebra.proofs.Parts.{size-add, size-neg, size-mul}
 use Rattle.word.proofs.Fits.{zero-sub, sfits-size, sfits-neg}
 use Rattle.word.proofs.Shift.{shift-constant-word}
-use Rattle.iteration.specs.Select.{low-x, high-x, low-y, high-y, half}
+use Rattle.iteration.specs.Select.{low-x, high-x, low-y, half}
 use Rattle.iteration.specs.Code.{BackPre, LessPre}
 
--- ---- the thresholds of step n are those of one, shifted
+-- ---- the thresholds of step n: EXP's in 16ths of 1/2^n, LOG's half of it
 module _ (F n : ℕ) (narrow : F ≤ 48) (h : n + 8 ≤ F) where
-  threshold : (c : ℤ) (m : ℕ) → n ≤ m → m ≤ F → Size c (pos 13) → toZ w64 (ofZ w64 (shrZ (c *ℤ two m) (2 ^ n))) ≡ c *ℤ two (m - n)
-  threshold c m l g s = shift-constant-word c m n l (sfits-size (size-mul s (record {
+  abbrev sixteenth : ℤ
+  sixteenth = two (F - 4 - n)
+
+  -- so many powers of two up to 2^F make a word
+  pub times-fits : (c : ℤ) (m : ℕ) → Size c (pos 13) → m ≤ F → SFits w64 (c *ℤ two m)
+  times-fits c m s g = sfits-size (size-mul s (record {
     lo = lin (two m ∷ two 48 ∷ []) (two-mono m 48 (omega arith) & two≥1 m & none) (search reify depth 20) tt;
     hi = two-mono m 48 (omega arith);
-  })) tt)
+  })) tt
 
-  pub low-x-word : toZ w64 (ofZ w64 (shrZ (negsuc 0 *ℤ two (F - 1)) (2 ^ n))) ≡ low-x F n
-  low-x-word = threshold (negsuc 0) (F - 1) (omega arith) (omega arith) (record { lo = record { le = tt }; hi = record { le = tt } })
-      ∙ ring! ℤR (two (F - 1 - n) ∷ []) (search reify depth 20) tt
+  shifted : (m : ℕ) → n ≤ m → m ≤ F → toZ w64 (ofZ w64 (shrZ (pos 1 *ℤ two m) (2 ^ n))) ≡ two (m - n)
+  shifted m l g = shift-constant-word (pos 1) m n l (times-fits (pos 1) m (record { lo = record { le = tt }; hi = record { le = tt } }) g)
+      ∙ ring! ℤR (two (m - n) ∷ []) (search reify depth 20) tt
 
-  pub high-x-word : toZ w64 (ofZ w64 (shrZ (pos 3 *ℤ two (F - 3)) (2 ^ n))) ≡ high-x F n
-  high-x-word = threshold (pos 3) (F - 3) (omega arith) (omega arith) (record { lo = record { le = tt }; hi = record { le = tt } })
-
-  pub low-y-word : toZ w64 (ofZ w64 (shrZ (negsuc 2 *ℤ two (F - 2)) (2 ^ n))) ≡ low-y F n
-  low-y-word = threshold (negsuc 2) (F - 2) (omega arith) (omega arith) (record { lo = record { le = tt }; hi = record { le = tt } })
-      ∙ ring! ℤR (two (F - 2 - n) ∷ []) (search reify depth 20) tt
-
-  pub high-y-word : toZ w64 (ofZ w64 (shrZ (pos 13 *ℤ two (F - 4)) (2 ^ n))) ≡ high-y F n
-  high-y-word = threshold (pos 13) (F - 4) (omega arith) (omega arith) (record { lo = record { le = tt }; hi = record { le = tt } })
+  pub sixteenth-word : toZ w64 (ofZ w64 (shrZ (pos 1 *ℤ two (F - 4)) (2 ^ n))) ≡ sixteenth
+  sixteenth-word = shifted (F - 4) (omega arith) (omega arith)
 
   pub half-word : toZ w64 (ofZ w64 (shrZ (pos 1 *ℤ two (F - 1)) (2 ^ n))) ≡ half F n
-  half-word = threshold (pos 1) (F - 1) (omega arith) (omega arith) (record { lo = record { le = tt }; hi = record { le = tt } })
-      ∙ ring! ℤR (two (F - 1 - n) ∷ []) (search reify depth 20) tt ∙ ap two same
+  half-word = shifted (F - 1) (omega arith) (omega arith) ∙ ap two same
     where
       same : F - 1 - n ≡ F - suc n
       same = omega arith
+
+  in-sixteenths : (k j : ℕ) → k + j ≡ 4 → two k *ℤ sixteenth ≡ two (F - j - n)
+  in-sixteenths k j e = ap (λ i. two k *ℤ two i) same ∙ two-part k (F - j) n (omega (arith, e))
+    where
+      same : F - 4 - n ≡ F - j - k - n
+      same = omega (arith, e)
+
+  pub low-x-is : negsuc 7 *ℤ sixteenth ≡ low-x F n
+  low-x-is = ring! ℤR (sixteenth ∷ []) (search reify depth 20) tt ∙ ap negℤ (in-sixteenths 3 1 refl)
+
+  pub high-x-is : pos 6 *ℤ sixteenth ≡ high-x F n
+  high-x-is = ring! ℤR (sixteenth ∷ []) (search reify depth 20) tt ∙ ap (λ u. pos 3 *ℤ u) (in-sixteenths 1 3 refl)
+
+  pub low-y-is : negsuc 11 *ℤ sixteenth ≡ low-y F n
+  low-y-is = ring! ℤR (sixteenth ∷ []) (search reify depth 20) tt ∙ ap (λ u. negℤ (pos 3 *ℤ u)) (in-sixteenths 2 2 refl)
 
 -- ---- the thresholds around a part of one
 pub record BackFits (t one : ℤ) : Type 0 where
