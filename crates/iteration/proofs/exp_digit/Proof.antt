@@ -31,6 +31,24 @@ module _ (n : ℕ) (h : n ≤ 40) where
     held : {z : ℤ} → c *ℤ two (48 - 4 - n) ≡ z → toZ w64 (ofZ w64 (c *ℤ unit)) ≡ z
     held e = back fits ∙ (ap (λ u. c *ℤ u) unit-is ∙ e)
 
+-- ---- the contract
+returns : tie.Need-returns
+unfolding exp-select
+returns c =
+    let b = c .before in
+    let s = b .before .before .before in
+    let n = s .args .n in
+    let x = back (sfits-mag (s .args .sum .x) (b .before .before .struct-told .given .0 .1)) in
+    let y = back (sfits-mag (s .args .sum .y) (b .before .struct-told2 .given .1 .0 .1)) in
+    let low-x = held n (s .pre) (negsuc 7) tt tt (low-x-is 48 n (omega arith) (omega arith)) in
+    let high-x = held n (s .pre) (pos 6) tt tt (high-x-is 48 n (omega arith) (omega arith)) in
+    let low-y = held n (s .pre) (negsuc 11) tt tt (low-y-is 48 n (omega arith) (omega arith)) in
+    let high-y = held n (s .pre) (pos 13) tt tt refl in
+    let dx = back (sfits-mag (b .cut .result) (b .cut .ok)) ∙ (b .cut .ensures ∙ (λ i. cut (low-x i) (high-x i) (x i))) in
+    let dy = back (sfits-mag (c .cut2 .result) (c .cut2 .ok)) ∙ (c .cut2 .ensures ∙ (λ i. cut (low-y i) (high-y i) (y i))) in
+    λ i. record { dx = dx i; dy = dy i }
+
+-- ---- the needs
 cast-t : tie.Need-cast-t
 cast-t c = search needs
 
@@ -54,22 +72,6 @@ mul-cut-4 c = let s = c .before .before .before in fits (s .args .n) (s .pre) (p
 
 cut-requires-2 : tie.Need-cut-requires-2
 cut-requires-2 c κs = search needs
-
-returns : tie.Need-returns
-unfolding exp-select
-returns c =
-    let b = c .before in
-    let s = b .before .before .before in
-    let n = s .args .n in
-    let x = back (sfits-mag (s .args .sum .x) (b .before .before .struct-told .given .0 .1)) in
-    let y = back (sfits-mag (s .args .sum .y) (b .before .struct-told2 .given .1 .0 .1)) in
-    let low-x = held n (s .pre) (negsuc 7) tt tt (low-x-is 48 n (omega arith) (omega arith)) in
-    let high-x = held n (s .pre) (pos 6) tt tt (high-x-is 48 n (omega arith) (omega arith)) in
-    let low-y = held n (s .pre) (negsuc 11) tt tt (low-y-is 48 n (omega arith) (omega arith)) in
-    let high-y = held n (s .pre) (pos 13) tt tt refl in
-    let dx = back (sfits-mag (b .cut .result) (b .cut .ok)) ∙ (b .cut .ensures ∙ (λ i. cut (low-x i) (high-x i) (x i))) in
-    let dy = back (sfits-mag (c .cut2 .result) (c .cut2 .ok)) ∙ (c .cut2 .ensures ∙ (λ i. cut (low-y i) (high-y i) (y i))) in
-    λ i. record { dx = dx i; dy = dy i }
 
 pub exp-digit-spec : {M : Type 1} → statement M
 exp-digit-spec =
