@@ -133,19 +133,14 @@ fn refused(serial: i64, refusal: i64, out: &mut [u8]) -> LineAnswer
 fn put_figures(kind: Kind, serial: i64, n: i64, f: Figures, out: &mut [u8]) -> usize
     ensures { λ r. ⌜ Replied (answerReply kind serial n (recordOf (Answer.Answered f))) (now (out .entry)) (now (out .exit)) (pos 0) r ⌝ }
 {
-    let value = f.value;
-    let x = value.x;
-    let y = value.y;
-    let binary_exponent = f.binary_exponent;
-    let quadrant = f.quadrant;
-    let error_bound = f.error_bound;
+    let r = Answer::Answered(f).record();
     match kind {
         Kind::Exp => {
-            let fields = [n, x, y, error_bound];
+            let fields = [n, r[1], r[2], r[5]];
             buffer::put_line(serial, b"EXP", &fields, out, 0)
         }
         Kind::Log => {
-            let fields = [n, x, y, binary_exponent, quadrant, error_bound];
+            let fields = [n, r[1], r[2], r[3], r[4], r[5]];
             buffer::put_line(serial, b"LOG", &fields, out, 0)
         }
     }

@@ -1,71 +1,82 @@
 -- `text::put_figures` meets its contract: the fields of each kind are the definition's.
-use mathlib.Core.Path.{refl}
+use mathlib.Core.Path.{_≡_, refl, _∙_, ap}
+use Prim.Native.Nat.{ℕ, _<_, _^_}
+use lib.IntN.{ℤ, pos}
+use lib.ListN.{getD}
+use lib.Signed.{mag}
 use mir.Syntax.{w64}
-use mir.Val.{SFits}
+use mir.Val.{toZ, ofZ}
 use borrow.Author.Needs.{needs}
 use Rattle.word.proofs.Fits.{back, sfits-mag}
-use Rattle.answer.specs.declared.Figures.{Figures}
+use Rattle.answer.specs.declared.Answer.the-variants.{Answered}
 use Rattle.answer.specs.Record.{recordOf}
 use Rattle.text.proofs.Call.{replied}
 use Rattle.text.proofs.put_figures.Statement.{statement}
 use Rattle.text.proofs.put_figures.Tie as tie
 
--- ---- the figures, each of which fits
-module _ (c : tie.After-struct-told5) where
-  abbrev start : tie.Start
-  start = c .before .before .before .before .before .before .before
+-- ---- a number of the record, as the machine holds it
+abbrev at : tie.After-record → ℕ → ℤ
+at r i = getD (r .record .result) i (pos 0)
 
-  abbrev figures : Figures
-  figures = start .args .f
-
-  fit-x : SFits w64 (figures .value .x)
-  fit-x = sfits-mag _ (c .before .before .before .before .struct-told .given .0 .1)
-
-  fit-y : SFits w64 (figures .value .y)
-  fit-y = sfits-mag _ (c .before .before .before .struct-told2 .given .1 .0 .1)
-
-  fit-k : SFits w64 (figures .«binary_exponent»)
-  fit-k = sfits-mag _ (c .before .before .struct-told3 .given .1 .0 .1)
-
-  fit-q : SFits w64 (figures .quadrant)
-  fit-q = sfits-mag _ (c .before .struct-told4 .given .1 .1 .0 .1)
-
-  fit-bound : SFits w64 (figures .«error_bound»)
-  fit-bound = sfits-mag _ (c .struct-told5 .given .1 .1 .1 .0 .1)
+held : (r : tie.After-record) (i : ℕ) → mag (at r i) < 2 ^ 63 →
+    toZ w64 (ofZ w64 (at r i)) ≡ getD (recordOf (Answered (r .before .before .args .f))) i (pos 0)
+held r i h = back (sfits-mag (at r i) h) ∙ ap (λ l. getD l i (pos 0)) (r .record .ensures)
 
 -- ---- the contract
 returns : tie.Need-returns
 unfolding recordOf
 returns c =
     let p = c .before .before in
-    let e = p .before .before .before .before in
-    let t = e .before .before in
-    let s = start t in
+    let t22 = p .before .before .before .before in
+    let t19 = t22 .before in
+    let t16 = t19 .before in
+    let e = t16 .before in
+    let r = e .before .before in
+    let s = r .before .before in
     rw (e .enum-told .given .1)
     (replied refl
-    (rw (back (s .fits .serial), back (s .fits .n), back (fit-x t), back (fit-y t), back (fit-bound t)) at (p .put-line .ensures)))
+    (rw (back (s .fits .serial), back (s .fits .n), held r 1 (t16 .t16 .given), held r 2 (t19 .t19 .given), held r 5 (t22 .t22 .given)) at
+    (p .put-line .ensures)))
 
 returns-2 : tie.Need-returns-2
 unfolding recordOf
 returns-2 c =
     let p = c .before .before in
-    let e = p .before .before .before .before in
-    let t = e .before .before in
-    let s = start t in
+    let t43 = p .before .before .before .before in
+    let t40 = t43 .before in
+    let t37 = t40 .before in
+    let t34 = t37 .before in
+    let t31 = t34 .before in
+    let e = t31 .before in
+    let r = e .before .before in
+    let s = r .before .before in
     rw (e .enum-told2 .given .1)
     (replied refl
-    (rw (back (s .fits .serial), back (s .fits .n), back (fit-x t), back (fit-y t), back (fit-k t), back (fit-q t), back (fit-bound t)) at
-    (p .put-line2 .ensures)))
+    (rw (
+      back (s .fits .serial),
+      back (s .fits .n),
+      held r 1 (t31 .t31 .given),
+      held r 2 (t34 .t34 .given),
+      held r 3 (t37 .t37 .given),
+      held r 4 (t40 .t40 .given),
+      held r 5 (t43 .t43 .given),
+    ) at (p .put-line2 .ensures)))
 
 -- ---- the other needs
-put-line-requires : tie.Need-put-line-requires
-put-line-requires c κs = search needs
-
-put-line-requires-2 : tie.Need-put-line-requires-2
-put-line-requires-2 c κs = search needs
+record-requires : tie.Need-record-requires
+record-requires c κs = search needs
 
 enum-told : tie.Need-enum-told
 enum-told c = search needs
+
+array-copy-out-t16 : tie.Need-array-copy-out-t16
+array-copy-out-t16 c = search needs
+
+array-copy-out-t19 : tie.Need-array-copy-out-t19
+array-copy-out-t19 c = search needs
+
+array-copy-out-t22 : tie.Need-array-copy-out-t22
+array-copy-out-t22 c = search needs
 
 slice-aggregate-put-line : tie.Need-slice-aggregate-put-line
 slice-aggregate-put-line c = search needs
@@ -73,14 +84,35 @@ slice-aggregate-put-line c = search needs
 slice-aggregate-put-line-2 : tie.Need-slice-aggregate-put-line-2
 slice-aggregate-put-line-2 c = search needs
 
+put-line-requires : tie.Need-put-line-requires
+put-line-requires c κs = search needs
+
 enum-told-2 : tie.Need-enum-told-2
 enum-told-2 c = search needs
+
+array-copy-out-t31 : tie.Need-array-copy-out-t31
+array-copy-out-t31 c = search needs
+
+array-copy-out-t34 : tie.Need-array-copy-out-t34
+array-copy-out-t34 c = search needs
+
+array-copy-out-t37 : tie.Need-array-copy-out-t37
+array-copy-out-t37 c = search needs
+
+array-copy-out-t40 : tie.Need-array-copy-out-t40
+array-copy-out-t40 c = search needs
+
+array-copy-out-t43 : tie.Need-array-copy-out-t43
+array-copy-out-t43 c = search needs
 
 slice-aggregate-put-line-3 : tie.Need-slice-aggregate-put-line-3
 slice-aggregate-put-line-3 c = search needs
 
 slice-aggregate-put-line-4 : tie.Need-slice-aggregate-put-line-4
 slice-aggregate-put-line-4 c = search needs
+
+put-line-requires-2 : tie.Need-put-line-requires-2
+put-line-requires-2 c κs = search needs
 
 same-length : tie.Need-same-length
 same-length c = search needs
@@ -92,11 +124,20 @@ pub put-figures-spec : {M : Type 1} → statement M
 put-figures-spec =
     tie.close
     (tie.spec
+    record-requires
     enum-told
+    array-copy-out-t16
+    array-copy-out-t19
+    array-copy-out-t22
     slice-aggregate-put-line
     slice-aggregate-put-line-2
     put-line-requires
     enum-told-2
+    array-copy-out-t31
+    array-copy-out-t34
+    array-copy-out-t37
+    array-copy-out-t40
+    array-copy-out-t43
     slice-aggregate-put-line-3
     slice-aggregate-put-line-4
     put-line-requires-2
