@@ -14,7 +14,7 @@ use Rattle.iteration.specs.declared.State.{State}
 use Rattle.iteration.specs.declared.Mode.{Mode}
 use Rattle.iteration.specs.Run.{select, run, Fits}
 use Rattle.iteration.specs.Code.{StepPre, stepOf}
-use Rattle.iteration.proofs.Loop.{here, onward, run-more, step-is, step-ok}
+use Rattle.iteration.proofs.Loop.{onward, run-more, step-is, step-ok}
 use Rattle.iteration.proofs.run.Statement.{statement}
 use Rattle.iteration.proofs.run.Tie as tie
 
@@ -63,7 +63,7 @@ loop-holds c =
     )
 
 select-requires : tie.Need-select-requires Inv-loop μ-loop
-select-requires c κs = let l = c .before in (omega (arith, l .loop .inv .1 .0 .most), here (l .loop .inv .1 .0))
+select-requires c κs = let l = c .before in omega (arith, l .loop .inv .1 .0 .most)
 
 row-requires : tie.Need-row-requires Inv-loop μ-loop
 row-requires c κs = tt
