@@ -45,7 +45,7 @@ extern "C" {
  *     sx, sy        at most 2^58 in size
  *
  * Each part of the answer is off by at most the error bound, which is 8*M/2^n
- * rounded up, plus 3*n; M is the larger of the sizes of sx and sy.
+ * rounded up, plus 2*n; M is the larger of the sizes of sx and sy.
  */
 int64_t bkm_exp(int64_t n, int64_t ex, int64_t ey, int64_t sx, int64_t sy, uint8_t *out, size_t out_len);
 

@@ -3,6 +3,7 @@
 //!     cargo run --release --offline --manifest-path bench/Cargo.toml -p pictures [FOLDER]
 
 mod calls;
+mod drift;
 mod error;
 mod outline;
 mod svg;
@@ -12,6 +13,7 @@ use std::{env, fs, io, path::PathBuf};
 fn main() -> io::Result<()> {
     let docs = concat!(env!("CARGO_MANIFEST_DIR"), "/../../docs");
     let folder = env::args_os().nth(1).map_or_else(|| docs.into(), PathBuf::from);
+    fs::write(folder.join("drift.svg"), drift::picture())?;
     fs::write(folder.join("error.svg"), error::picture())?;
     fs::write(folder.join("outline.svg"), outline::picture())
 }

@@ -6,34 +6,20 @@ use crate::svg::{Axis, Page, Panel};
 use reference::answer::Figures;
 use reference::exponential::{rectangle, Input as Exp};
 use reference::logarithm::Input as Log;
+use reference::outline::kernel;
+use reference::point::{word, Point};
 use reference::width::WIDTH_48;
-use std::f64::consts::{FRAC_PI_2, LN_2, TAU};
+use std::f64::consts::{FRAC_PI_2, LN_2};
 
 const POINTS: usize = 360;
 /// The last turn is the largest that EXP takes, 47/64.
 const TURNS: i64 = 4;
 const N: i64 = 40;
 
-/// A made-up kernel: a superellipse, slimmer towards its tip, with the crease as a dent below.
-/// Parts are at most one.
-fn outline() -> Vec<(i64, i64)> {
-    let units = |part: f64| (part * WIDTH_48.one() as f64).round() as i64;
-    (0..=POINTS)
-        .map(|i| {
-            let (sin, cos) = (i as f64 / POINTS as f64 * TAU).sin_cos();
-            let size = |part: f64, half_axis: f64| (part / half_axis).abs().powf(2.3);
-            let radius = (size(cos, 0.95) + size(sin, 0.42)).powf(-1.0 / 2.3);
-            let (x, y) = (radius * cos, radius * sin);
-            let crease = if y < 0.0 { 0.13 * (-(x / 0.13).powi(2)).exp() } else { 0.0 };
-            (units(x), units(y * (1.0 - 0.25 * x) + crease))
-        })
-        .collect()
-}
-
 /// The outline times exp(i·angle), angle in units.
-fn turned(outline: &[(i64, i64)], angle: i64) -> Vec<Figures> {
-    let exp = |&(sx, sy)| calls::exp(Exp { n: N, ex: 0, ey: angle, sx, sy });
-    outline.iter().map(|point| exp(point).expect("a start that EXP takes")).collect()
+fn turned(outline: &[Point], angle: i64) -> Vec<Figures> {
+    let exp = |p: &Point| Exp { n: N, ex: 0, ey: angle, sx: word(p.x), sy: word(p.y) };
+    outline.iter().map(|p| calls::exp(exp(p)).expect("a start that EXP takes")).collect()
 }
 
 fn ones(units: i64) -> f64 {
@@ -83,7 +69,7 @@ pub fn picture() -> String {
         },
     };
     logarithms.draw(&mut page, "Its points by LOG: a turn is a shift");
-    let outline = outline();
+    let outline = kernel(POINTS, WIDTH_48.one() as f64);
     let [_, (_, largest)] = rectangle(WIDTH_48);
     let mut legend = Vec::new();
     for turn in 0..TURNS {

@@ -33,13 +33,13 @@ struct answer engine_exp(int64_t n, int64_t ex, int64_t ey, int64_t sx, int64_t 
         int64_t dx = (ex >= (ONE / 8 * 3) >> i) - (ex < (-ONE / 2) >> i);
         int64_t dy = (ey >= (ONE / 16 * 13) >> i) - (ey < (-ONE / 4 * 3) >> i);
         struct entry entry = STEPS[i - 1][dx + 1][dy + 1];
-        int64_t old_x = x;
-        x += (dx * x - dy * y) >> i;
-        y += (dx * y + dy * old_x) >> i;
+        int64_t old_x = x, to_nearest = INT64_C(1) << (i - 1);
+        x += (dx * x - dy * y + to_nearest) >> i;
+        y += (dx * y + dy * old_x + to_nearest) >> i;
         ex -= entry.re;
         ey -= entry.im;
     }
-    return (struct answer){.x = x, .y = y, .bound = share(8, sx, sy, n) + 3 * n};
+    return (struct answer){.x = x, .y = y, .bound = share(8, sx, sy, n) + 2 * n};
 }
 
 struct answer engine_log(int64_t n, int64_t px, int64_t py) {
@@ -77,9 +77,9 @@ struct answer engine_log(int64_t n, int64_t px, int64_t py) {
         int64_t half = (ONE / 2) >> i, u = x - ONE;
         int64_t dx = (u <= -half) - (u >= half), dy = (y <= -half) - (y >= half);
         struct entry entry = STEPS[i - 1][dx + 1][dy + 1];
-        int64_t old_x = x;
-        x += (dx * x - dy * y) >> i;
-        y += (dx * y + dy * old_x) >> i;
+        int64_t old_x = x, to_nearest = INT64_C(1) << (i - 1);
+        x += (dx * x - dy * y + to_nearest) >> i;
+        y += (dx * y + dy * old_x + to_nearest) >> i;
         answer_x -= entry.re;
         answer_y -= entry.im;
     }

@@ -24,8 +24,10 @@ pub struct Figures {
 const ONE: i64 = 1 << 48;
 const MAX_PART: i64 = 1 << 58;
 
+/// Rounded to the nearest; n is at least 1.
 fn step(x: i64, y: i64, dx: i64, dy: i64, n: i64) -> (i64, i64) {
-    (x + ((dx * x - dy * y) >> n), y + ((dx * y + dy * x) >> n))
+    let half = 1 << (n - 1);
+    (x + ((dx * x - dy * y + half) >> n), y + ((dx * y + dy * x + half) >> n))
 }
 
 type Entries = [[(i64, i64); 3]; 3];
@@ -71,7 +73,7 @@ pub fn exp(n: i64, ex: i64, ey: i64, sx: i64, sy: i64) -> Result<Figures, Refusa
         ex -= re;
         ey -= im;
     }
-    Ok(Figures { x, y, k: 0, q: 0, bound: share(8, sx, sy, n) + 3 * n })
+    Ok(Figures { x, y, k: 0, q: 0, bound: share(8, sx, sy, n) + 2 * n })
 }
 
 pub fn log(n: i64, px: i64, py: i64) -> Result<Figures, Refusal> {

@@ -1,7 +1,7 @@
 -- Rounding: a shift right is the floor of the quotient (towards minus infinity, for negative numbers too); floor(quotient + 1/2); a
 -- quotient rounded up.
 use mathlib.Core.Path.{_≡_, ap}
-use mathlib.Core.List.{[], _∷_}
+use mathlib.Core.List.{List, [], _∷_}
 use Prim.Native.Nat.{ℕ, _+_, _*_, _/_, _≤_, _<_}
 use native.Mathlib.Nat.{div-add-mod, div-one, mod-lt}
 use native.Mathlib.Omega.{arith}
@@ -50,6 +50,15 @@ module _ (m : ℕ) (h : 0 < m) where
   pub nearest-hi : (z : ℤ) → pos 2 *ℤ z +ℤ pos 1 ⩽ pos 2 *ℤ (pos m *ℤ nearest z m) +ℤ pos m
   unfolding nearest
   nearest-hi z = lin (pos m ∷ z ∷ nearest z m ∷ []) (floor-hi (2 * m) (omega arith) (pos 2 *ℤ z +ℤ pos m) & none) (search reify depth 20) tt
+
+  -- the floor after half of m is added; m = 1 has no half
+  pub nearest-half : (z : ℤ) → shrZ (z +ℤ pos (m / 2)) m ≡ nearest z m
+  nearest-half z = floor-unique m h (z +ℤ pos (m / 2)) (nearest z m)
+      (below-next (pos 2) (record { le = tt }) (lin ρ (nearest-lo z & hi 2 (omega arith) m &ℕ none) (search reify depth 20) tt))
+      (below-next (pos 2) (record { le = tt }) (lin ρ (nearest-hi z & lo 2 (omega arith) m &ℕ none) (search reify depth 20) tt))
+    where
+      ρ : List ℤ
+      ρ = pos m ∷ pos (m / 2) ∷ z ∷ nearest z m ∷ []
 
 -- ---- z/m rounded up: the least whole number that is not below it
 module _ (m : ℕ) (h : 0 < m) where

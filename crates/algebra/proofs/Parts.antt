@@ -1,22 +1,22 @@
 -- Sizes ("size" of a part is its absolute value, 01): a number at most b in size, a complex number with each part at most b in size, and
 -- how that goes with lengths: a part is at most the length, and the length at most 99/70 of the larger part (2·70² ≤ 99²).
 use mathlib.Core.Path.{_≡_, sym, subst}
-use mathlib.Core.List.{[], _∷_}
+use mathlib.Core.List.{List, [], _∷_}
 use Prim.Native.Nat.{ℕ, _≤_, _<_}
 use lib.IntN.{ℤ, pos, negsuc, _+ℤ_, _-ℤ_, _*ℤ_, negℤ, natAbs}
 use lib.Signed.{shrZ}
 use Rattle.algebra.specs.Gauss.{𝔾, ιᵍ, negᵍ, _+ᵍ_, _-ᵍ_, _*ᵍ_, N}
 use Rattle.algebra.specs.Order.{_⩽_, _⋖_}
 use Rattle.algebra.specs.Size.{Within, abs, Size, Parts}
-use Rattle.algebra.specs.Rounding.{floorᵍ}
+use Rattle.algebra.specs.Rounding.{nearest, floorᵍ}
 use Rattle.algebra.proofs.Integer.{ℤR}
 use Rattle.algebra.proofs.Gauss.{N-mul, N-scale}
 use Rattle.algebra.proofs.Reify.{ring!, reify}
 use Rattle.algebra.proofs.Order.{⩽-refl, ⩽-trans, nonneg-add, nonneg-mul, nonneg-pos, nonneg-sq, sub-nonneg, pos-mono}
 use Rattle.algebra.proofs.Linear.{lin, lin<, _&_, _&<_, none}
-use Rattle.algebra.proofs.Inequality.{sq-le, le-cancel, neg-mono}
+use Rattle.algebra.proofs.Inequality.{sq-le, le-cancel, below-next, neg-mono}
 use Rattle.algebra.proofs.Within.{N-nonneg}
-use Rattle.algebra.proofs.Floor.{floor-lo, floor-hi}
+use Rattle.algebra.proofs.Floor.{floor-lo, floor-hi, nearest-lo, nearest-hi}
 
 -- ---- |x|
 pub abs-nonneg : (x : ℤ) → pos 0 ⩽ abs x
@@ -126,6 +126,22 @@ size-floor m h x = record {
   lo = lin (x ∷ pos m ∷ shrZ x m ∷ []) (floor-lo m h x & nonneg-pos m & none) (search reify depth 20) tt;
   hi = lin (x ∷ pos m ∷ shrZ x m ∷ []) (floor-hi m h x & none) (search reify depth 20) tt;
 }
+
+-- the nearest whole number to a quotient is no larger than what is divided
+pub size-nearest : {x b : ℤ} (m : ℕ) → 0 < m → Size x b → Size (nearest x m) b
+size-nearest {x} {b} m h s = record {
+  lo = below-next (pos 2 *ℤ pos m) two-m (lin ρ (nearest-hi m h x & s .lo & room & pos-mono h & none) (search reify depth 20) tt);
+  hi = below-next (pos 2 *ℤ pos m) two-m (lin ρ (nearest-lo m h x & s .hi & room & pos-mono h & none) (search reify depth 20) tt);
+}
+  where
+    ρ : List ℤ
+    ρ = x ∷ b ∷ pos m ∷ nearest x m ∷ []
+
+    two-m : pos 1 ⩽ pos 2 *ℤ pos m
+    two-m = lin (pos m ∷ []) (pos-mono h & none) (search reify depth 20) tt
+
+    room : pos 0 ⩽ (pos m -ℤ pos 1) *ℤ b
+    room = nonneg-mul (sub-nonneg (pos-mono h)) (size-sign s)
 
 -- ---- both parts
 pub parts-weaken : {z : 𝔾} {b c : ℤ} → Parts z b → b ⩽ c → Parts z c

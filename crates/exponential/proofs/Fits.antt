@@ -67,7 +67,7 @@ bound-fits F n {s} narrow h given = record {
     few : n ≤ 40
     few = omega arith
 
-    share : Size (rounding-share *ℤ pos n) (pos 120)
+    share : Size (rounding-share *ℤ pos n) (rounding-share *ℤ pos 40)
     share = record {
       lo = lin (pos n ∷ []) (nonneg-pos n & none) (search reify depth 20) tt;
       hi = lin (pos n ∷ []) (few &ℕ none) (search reify depth 20) tt;

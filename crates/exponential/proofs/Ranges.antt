@@ -31,7 +31,7 @@ use Rattle.iteration.proofs.Drift.{exact-start, exact-run, exact-size}
 use Rattle.exponential.specs.Answer.{inRectangle, rounding-share, figures, answer, errorBound, expAnswer}
 use Rattle.exponential.proofs.Bound.{bound-enough, bound-least}
 
--- at F = 48: N from 1 to 40, each part of the value at most 2^60 in size, and an error bound from 0 to 2^60 + 120
+-- at F = 48: N from 1 to 40, each part of the value at most 2^60 in size, and an error bound from 0 to 2^60 + 80
 pub record ExpRanges (F : ℕ) (n : ℤ) (f : Figures) : Type 0 where
   pub steps-low : pos 1 ⩽ n
   pub steps-high : n ⩽ pos (F - 8)

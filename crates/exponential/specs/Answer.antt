@@ -26,10 +26,11 @@ use Rattle.iteration.specs.Run.{state, run}
 unfoldable pub inRectangle : ℕ → 𝔾 → Bool
 inRectangle F e = inBox (negℤ (pos 53 *ℤ two (F - 6))) (pos 55 *ℤ two (F - 6)) (negℤ (pos 47 *ℤ two (F - 6))) (pos 47 *ℤ two (F - 6)) e
 
--- ---- the error bound, the "column" of 01: "8M/2^N rounded up to a whole number, plus 3N, M being the start's larger part in size"
--- the 3 of "plus 3N": what the rounding of a step puts into it, in units
+-- ---- the error bound, the "column" of 01: "8M/2^N rounded up to a whole number, plus 3N, M being the start's larger part in size"; 02, E1:
+-- "The 3N of the EXP column becomes 2N"
+-- the 2 of 2N: what the rounding of a step puts into it, in units
 abbrev pub rounding-share : ℤ
-rounding-share = pos 3
+rounding-share = pos 2
 
 unfoldable pub errorBound : ℕ → 𝔾 → ℤ
 errorBound n s = ceiling (pos 8 *ℤ larger s) (2 ^ n) +ℤ rounding-share *ℤ pos n
@@ -63,11 +64,11 @@ expAnswer n ex ey sx sy = answer 48 stepTable n (gi ex ey) (gi sx sy)
 abbrev pub miss : (F T : ℕ) (e s a : 𝔾) → 𝔾
 miss F T e s a = a *ᵍ Dᵍ (2 ^ F) T -ᵍ s *ᵍ Sᵍ (2 ^ F) T e
 
--- "8M/2^N + 3N"
+-- "8M/2^N + 3N", and "The exactness claim for EXP is to hold with the smaller figure" (02, E1): 8M/2^N + 2N
 abbrev pub allowed : (F n T : ℕ) (s : 𝔾) → ℤ
 allowed F n T s = (pos 8 *ℤ larger s +ℤ rounding-share *ℤ pos n *ℤ two n) *ℤ Dᶻ (2 ^ F) T
 
--- "is at most 8M/2^N + 3N in size in each part"
+-- is at most that "in size in each part"
 pub record CloseAt (F n T : ℕ) (e s a : 𝔾) : Type 0 where
   pub re : abs (miss F T e s a .re) *ℤ two n ⩽ allowed F n T s
   pub im : abs (miss F T e s a .im) *ℤ two n ⩽ allowed F n T s

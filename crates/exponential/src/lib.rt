@@ -32,7 +32,7 @@ fn larger_part(p: Point) -> i64
     if b < a { a } else { b }
 }
 
-// 8 M / 2^n rounded up, plus 3 n: M is the start's larger part in size.
+// 8 M / 2^n rounded up, plus 2 n: M is the start's larger part in size.
 fn error_bound(n: usize, s: Point) -> i64
     requires { ⌜ n ≤ 40 ⌝ }
     requires { ⌜ Parts (gauss s) (two 58) ⌝ }
@@ -40,7 +40,7 @@ fn error_bound(n: usize, s: Point) -> i64
 {
     let m = larger_part(s);
     let down = (-8 * m) >> n;
-    let share = 3 * (n as i64);
+    let share = 2 * (n as i64);
     share - down
 }
 

@@ -51,9 +51,9 @@ short-next F n r fits dig entry short = within-weaken (within-sub short (entry-s
 
 -- what the rounding of a step adds to the point's error, in units of length
 abbrev pub drift-a-step : ℤ
-drift-a-step = pos 3
+drift-a-step = pos 2
 
--- ---- the room that the rounding's share of a step leaves for the growth of the old error (also for the share 2, with half-units 1)
+-- ---- the room that the rounding's share of a step leaves for the growth of the old error
 three-n : (n : ℕ) → 3 * n ≤ 2 ^ suc n
 three-n zero = omega arith
 three-n (suc zero) = omega arith

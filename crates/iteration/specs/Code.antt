@@ -29,7 +29,7 @@ pub record LessPre (e z : 𝔾) : Type 0 where
 pub record StepPre (s : State) (d : Digit) (row : List Entry) (n : ℕ) : Type 0 where
   pub small : Small s
   pub digit : IsDigit (gaussᵈ d)
-  pub count : n < 64
+  pub count : n < 63
   pub left : Parts (gauss (s .sum) -ᵍ number (byDigit row no-entry (d .dy))) (two 61)
 
 abbrev pub stepOf : State → Digit → List Entry → ℕ → State

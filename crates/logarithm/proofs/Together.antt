@@ -44,7 +44,7 @@ module _ (U Z t n up down B δ P x : ℤ) (w w′ v Q g : 𝔾)
   Ω = ιᵍ (pos 280) *ᵍ (ιᵍ up *ᵍ w *ᵍ Q -ᵍ ιᵍ down *ᵍ ιᵍ δ *ᵍ ιᵍ U)
 
   r : ℤ
-  r = pos 1089 +ℤ pos 840 *ℤ n +ℤ pos 1188 *ℤ t
+  r = pos 1089 +ℤ pos 280 *ℤ drift-a-step *ℤ n +ℤ pos 1188 *ℤ t
 
   Ω-size : Within Ω (c *ℤ r)
   unfolding Ω r c

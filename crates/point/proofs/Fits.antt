@@ -1,12 +1,22 @@
 -- Whatever a method makes fits a word, from the parts' sizes (01, Points and units: "on parts at most 2^61 in size, where none overflows").
-use Prim.Native.Nat.{ℕ}
-use lib.IntN.{pos, _+ℤ_, _-ℤ_, _*ℤ_}
+use mathlib.Core.Path.{_≡_, _∙_, ap}
+use mathlib.Core.List.{[], _∷_}
+use Prim.Native.Nat.{ℕ, _*_, _/_, _%_, _^_, _≤_, _<_}
+use native.Mathlib.Omega.{arith}
+use lib.IntN.{ℤ, pos, _+ℤ_, _-ℤ_, _*ℤ_}
+use lib.Signed.{shrZ}
 use mir.Syntax.{w64}
-use mir.Val.{SFits}
+use mir.Val.{SFits, toZ, ofZ}
 use Rattle.algebra.specs.Gauss.{𝔾, two}
-use Rattle.algebra.specs.Size.{Parts}
-use Rattle.algebra.proofs.Parts.{size-add, size-digit, size-neg}
-use Rattle.word.proofs.Fits.{zero-sub, sfits-size}
+use Rattle.algebra.specs.Size.{Size, Parts}
+use Rattle.algebra.proofs.Integer.{ℤR}
+use Rattle.algebra.proofs.Reify.{ring!, reify}
+use Rattle.algebra.proofs.Order.{pos-inj-le}
+use Rattle.algebra.proofs.Power.{two-pos, two-mono}
+use Rattle.algebra.proofs.Floor.{nearest-half}
+use Rattle.algebra.proofs.Parts.{size-nat, size-add, size-digit, size-neg}
+use Rattle.word.proofs.Fits.{back, zero-sub, sfits-size, sfits-pos}
+use Rattle.word.proofs.Shift.{shift-left, sfits-shift}
 use Rattle.point.specs.Digit.{IsDigit}
 use Rattle.point.specs.Step.{quotient}
 use Rattle.point.proofs.Digits.{trit-size}
@@ -27,6 +37,38 @@ point-fits {z} h = record {
   minus-y = rw (zero-sub (z .im)) (sfits-size (size-neg (h .im)) tt);
 }
 
+-- ---- a quotient: v, half of 2^n and their sum
+pub record QuotientFits (v : ℤ) (n : ℕ) : Type 0 where
+  pub given : SFits w64 v
+  pub power : SFits w64 (pos 1 *ℤ two n)
+  pub half : SFits w64 (pos (2 ^ n / 2))
+  pub raised : SFits w64 (v +ℤ pos (2 ^ n / 2))
+
+pub quotient-fits : {v : ℤ} (n : ℕ) → Size v (two 62) → n < 63 → QuotientFits v n
+quotient-fits n s h = record {
+  given = sfits-size s tt;
+  power = sfits-pos (omega (arith, few));
+  half = sfits-size half tt;
+  raised = sfits-size (size-add s half) tt;
+}
+  where
+    few : 2 ^ n ≤ 2 ^ 62
+    few = pos-inj-le (two-mono n 62 (omega arith))
+
+    half : Size (pos (2 ^ n / 2)) (two 61)
+    half = size-nat (omega (arith, few))
+
+-- half of 2^n as the code makes it, and the quotient by it
+pub half-word : {v : ℤ} {n : ℕ} → QuotientFits v n → toZ w64 (ofZ w64 (shrZ (toZ w64 (ofZ w64 (pos 1) * 2 ^ n % 2 ^ 64)) (2 ^ 1))) ≡ pos (2 ^ n / 2)
+half-word {v} {n} f = ap (λ u. toZ w64 (ofZ w64 (shrZ u 2))) (shift-left (pos 1) n (f .power) ∙ once) ∙ back (f .half)
+  where
+    once : pos 1 *ℤ two n ≡ two n
+    once = ring! ℤR (two n ∷ []) (search reify depth 20) tt
+
+pub quotient-word : {v : ℤ} {n : ℕ} → QuotientFits v n → toZ w64 (ofZ w64 (shrZ (v +ℤ pos (2 ^ n / 2)) (2 ^ n))) ≡ quotient v n
+unfolding quotient
+quotient-word {v} {n} f = back (sfits-shift (2 ^ n) (f .raised)) ∙ nearest-half (2 ^ n) (two-pos n) v
+
 -- ---- a step
 pub record StepFits (n : ℕ) (d z : 𝔾) : Type 0 where
   pub x : SFits w64 (z .re)
@@ -39,6 +81,8 @@ pub record StepFits (n : ℕ) (d z : 𝔾) : Type 0 where
   pub dy-x : SFits w64 (d .im *ℤ z .re)
   pub re : SFits w64 (d .re *ℤ z .re -ℤ d .im *ℤ z .im)
   pub im : SFits w64 (d .re *ℤ z .im +ℤ d .im *ℤ z .re)
+  pub size-re : Size (d .re *ℤ z .re -ℤ d .im *ℤ z .im) (two 62)
+  pub size-im : Size (d .re *ℤ z .im +ℤ d .im *ℤ z .re) (two 62)
   pub quotient-re : SFits w64 (quotient (d .re *ℤ z .re -ℤ d .im *ℤ z .im) n)
   pub quotient-im : SFits w64 (quotient (d .re *ℤ z .im +ℤ d .im *ℤ z .re) n)
   pub new-x : SFits w64 (z .re +ℤ quotient (d .re *ℤ z .re -ℤ d .im *ℤ z .im) n)
@@ -61,6 +105,8 @@ step-fits n t h =
       dy-x = sfits-size (size-digit dy (h .re)) tt;
       re = sfits-size re tt;
       im = sfits-size im tt;
+      size-re = re;
+      size-im = im;
       quotient-re = sfits-size (quotient-size n re) tt;
       quotient-im = sfits-size (quotient-size n im) tt;
       new-x = sfits-size (size-add (h .re) (quotient-size n re)) tt;

@@ -3,34 +3,33 @@ use mathlib.Core.List.{List, [], _∷_}
 use Prim.Native.Nat.{ℕ, _^_}
 use lib.IntN.{ℤ, pos, _+ℤ_, _-ℤ_, _*ℤ_}
 use Rattle.algebra.specs.Gauss.{𝔾, _+ᵍ_, _-ᵍ_, _*ᵍ_, negᵍ, ιᵍ, two, twoᵍ}
-use Rattle.algebra.specs.Order.{_⩽_}
 use Rattle.algebra.specs.Size.{Size, Parts}
 use Rattle.algebra.proofs.Reify.{reify}
 use Rattle.algebra.proofs.Order.{nonneg-pos}
 use Rattle.algebra.proofs.Linear.{lin, _&_, none}
 use Rattle.algebra.proofs.Power.{two-pos}
-use Rattle.algebra.proofs.Floor.{floor-lo, floor-hi}
-use Rattle.algebra.proofs.Parts.{parts-cancel, parts-weaken}
-use Rattle.word.proofs.Shift.{size-shift}
+use Rattle.algebra.proofs.Floor.{nearest-lo, nearest-hi}
+use Rattle.algebra.proofs.Parts.{size-nearest, parts-cancel, parts-weaken}
 use Rattle.point.specs.Step.{quotient, step}
 
--- it is at most the quotient, and less than one unit below it
-pub record Rounded (v : ℤ) (n : ℕ) (q : ℤ) : Type 0 where
-  pub below : two n *ℤ q ⩽ v
-  pub near : v +ℤ pos 1 ⩽ two n *ℤ q +ℤ two n
-
-pub quotient-law : (v : ℤ) (n : ℕ) → Rounded v n (quotient v n)
-unfolding quotient
-quotient-law v n = record { below = floor-lo (2 ^ n) (two-pos n) v; near = floor-hi (2 ^ n) (two-pos n) v }
-
--- so it is off by at most this many half units
+-- a quotient, 2^n times, is off by at most this many half units
 abbrev pub half-units : ℤ
-half-units = pos 2
+half-units = pos 1
+
+pub quotient-off : (v : ℤ) (n : ℕ) → Size (pos 2 *ℤ (two n *ℤ quotient v n -ℤ v)) (half-units *ℤ two n)
+unfolding quotient
+quotient-off v n = record {
+  lo = lin ρ (nearest-hi (2 ^ n) (two-pos n) v & none) (search reify depth 20) tt;
+  hi = lin ρ (nearest-lo (2 ^ n) (two-pos n) v & none) (search reify depth 20) tt;
+}
+  where
+    ρ : List ℤ
+    ρ = two n ∷ v ∷ quotient v n ∷ []
 
 -- and no larger than v in size
 pub quotient-size : {v b : ℤ} (n : ℕ) → Size v b → Size (quotient v n) b
 unfolding quotient
-quotient-size n h = size-shift (2 ^ n) h
+quotient-size n h = size-nearest (2 ^ n) (two-pos n) h
 
 -- 2^n·w less (2^n + d)·z: what w is off the exact product by, in 1/2^n of a unit
 abbrev pub off : ℕ → 𝔾 → 𝔾 → 𝔾 → 𝔾
@@ -41,12 +40,12 @@ pub step-off : (n : ℕ) (d z : 𝔾) → Parts (ιᵍ (pos 2) *ᵍ off n d z (s
 unfolding step _+ᵍ_ _*ᵍ_ negᵍ ιᵍ
 step-off n d z = record {
   re = record {
-    lo = lin ρ (quotient-law u n .near & none) (search reify depth 20) tt;
-    hi = lin ρ (quotient-law u n .below & nonneg-pos (2 ^ n) & none) (search reify depth 20) tt;
+    lo = lin ρ (quotient-off u n .lo & none) (search reify depth 20) tt;
+    hi = lin ρ (quotient-off u n .hi & none) (search reify depth 20) tt;
   };
   im = record {
-    lo = lin ρ (quotient-law v n .near & none) (search reify depth 20) tt;
-    hi = lin ρ (quotient-law v n .below & nonneg-pos (2 ^ n) & none) (search reify depth 20) tt;
+    lo = lin ρ (quotient-off v n .lo & none) (search reify depth 20) tt;
+    hi = lin ρ (quotient-off v n .hi & none) (search reify depth 20) tt;
   };
 }
   where

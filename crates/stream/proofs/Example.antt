@@ -65,7 +65,7 @@ no-steps : recordOf (expAnswer (pos 0) (pos 0) (pos 0) (pos 0) (pos 0)) ≡ pos 
 unfolding recordOf expAnswer answer inSteps between
 no-steps = refl
 
-answer₁ : answerLine initial line₁ .bytes ≡ lineBytes (pos 1) EXP (pos 40 ∷ pos (2 ^ 48) ∷ pos 0 ∷ pos 2168 ∷ [])
+answer₁ : answerLine initial line₁ .bytes ≡ lineBytes (pos 1) EXP (pos 40 ∷ pos (2 ^ 48) ∷ pos 0 ∷ pos 2128 ∷ [])
 unfolding answerLine reply replyOf
 answer₁ = ap (λ l. replyOf l .bytes) exp₁ ∙ rw quoted-line
 
@@ -77,10 +77,10 @@ answer₃ : answerLine initial line₃ .bytes ≡ lineBytes (pos 3) REF (pos 1 �
 unfolding answerLine reply replyOf
 answer₃ = ap (λ l. replyOf l .bytes) exp₃ ∙ rw no-steps
 
--- THE RUN: BKM|48, 1|EXP|40|281474976710656|0|2168, 2|REF|4, 3|REF|1
+-- THE RUN: BKM|48, 1|EXP|40|281474976710656|0|2128, 2|REF|4, 3|REF|1
 pub whole-run : sheet given ≡
     heading
-    ++ (lineBytes (pos 1) EXP (pos 40 ∷ pos (2 ^ 48) ∷ pos 0 ∷ pos 2168 ∷ [])
+    ++ (lineBytes (pos 1) EXP (pos 40 ∷ pos (2 ^ 48) ∷ pos 0 ∷ pos 2128 ∷ [])
     ++ (lineBytes (pos 2) REF (pos 4 ∷ [])
     ++ (lineBytes (pos 3) REF (pos 1 ∷ []) ++ [])))
 unfolding sheet answers answerLine

@@ -1,23 +1,29 @@
-//! 01, Where a step goes astray: the product against the second implementation with one fault
-//! put in, on inputs at which the fault shows.
+//! 01, Where a step goes astray, and a step that does not round as 02, E1 says: the product against
+//! the second implementation with one fault put in, on inputs at which the fault shows.
 
 use compare::{numbers, observed};
 use reference::edges::{EXP, EY_GREATEST, ONE};
 use reference::exponential::{self, Input as Exp, CUT};
 use reference::logarithm::{self, Input as Log};
-use reference::point::{point, Digit, Point};
+use reference::point::{floor_quotient, nearest_quotient, point, Digit, Point, Quotient};
 use reference::samples::{exp_input, log_input, Random};
-use reference::tables::{reciprocal, tables};
+use reference::tables::{cell_xs, cell_ys, reciprocal, tables};
 use reference::width::WIDTH_48 as W;
 
 #[derive(Clone, Copy, PartialEq, Eq, Debug)]
 enum Fault {
     /// None.
     Right,
-    /// A quotient cut towards zero: in a step, in LOG's scale, in the product with the reciprocal.
+    /// A step's quotient by floor, as before E1, cut towards zero, or with a half rounded down.
+    StepFloor,
     StepCut,
+    StepHalfDown,
+    /// LOG's scale, which keeps plain floor, cut towards zero or to the nearest.
     ScaleCut,
+    ScaleNearest,
+    /// Likewise the product with the reciprocal.
     ProductCut,
+    ProductNearest,
     /// The new x used in making the new y.
     NewX,
     /// The half before the real logarithm lost.
@@ -28,20 +34,39 @@ enum Fault {
 
 use Fault::*;
 
+fn cut_quotient(a: i128, n: u32) -> i128 {
+    a / (1 << n)
+}
+
+fn half_down_quotient(a: i128, n: u32) -> i128 {
+    -nearest_quotient(-a, n)
+}
+
 impl Fault {
-    fn quotient(self, a: i128, n: u32, cut_by: Fault) -> i128 {
-        let floor = a >> n;
-        if self == cut_by && a < 0 && floor << n != a {
-            floor + 1
+    fn step(self, p: Point, d: Digit, n: u32) -> Point {
+        let quotient: Quotient = match self {
+            StepFloor => floor_quotient,
+            StepCut => cut_quotient,
+            StepHalfDown => half_down_quotient,
+            _ => nearest_quotient,
+        };
+        let right = p.step_by(quotient, d, n);
+        if self == NewX {
+            point(right.x, p.y + quotient(d.x * p.y + d.y * right.x, n))
         } else {
-            floor
+            right
         }
     }
 
-    fn step(self, p: Point, d: Digit, n: u32) -> Point {
-        let x = p.x + self.quotient(d.x * p.x - d.y * p.y, n, StepCut);
-        let used = if self == NewX { x } else { p.x };
-        point(x, p.y + self.quotient(d.x * p.y + d.y * used, n, StepCut))
+    /// Where 01 has a plain floor, and these faults none.
+    fn floor(self, cut: Fault, nearest: Fault) -> Quotient {
+        if self == cut {
+            cut_quotient
+        } else if self == nearest {
+            nearest_quotient
+        } else {
+            floor_quotient
+        }
     }
 
     fn entry(self, d: Digit, n: u32) -> Point {
@@ -68,18 +93,23 @@ impl Fault {
         start
     }
 
-    fn log(self, input: Log) -> Point {
+    /// None when the scaled point has no cell, as it may have none by rounding up to one.
+    fn log(self, input: Log) -> Option<Point> {
         let reduction = logarithm::reduce(input.point(), W);
         let turned = input.point().turned(4 - reduction.quadrant);
         let k = reduction.binary_exponent;
         let scale = |part: i128| match k {
             ..=0 => part << -k,
-            _ => self.quotient(part, k as u32, ScaleCut),
+            _ => self.floor(ScaleCut, ScaleNearest)(part, k as u32),
         };
         let scaled = point(scale(turned.x), scale(turned.y));
         let [cx, cy] = [scaled.x, scaled.y].map(|part| 2 * (part >> 44) + 1);
+        if !cell_xs().any(|x| x == cx) || !cell_ys().any(|y| y == cy) {
+            return None;
+        }
         let product = scaled.times(reciprocal(cx, cy));
-        let [x, y] = [product.x, product.y].map(|part| self.quotient(part, 6, ProductCut));
+        let floor = self.floor(ProductCut, ProductNearest);
+        let [x, y] = [product.x, product.y].map(|part| floor(part, 6));
         let (mut near_one, mut answer) =
             (point(x, y), point(0, 0) - tables(W).reciprocal_log(cx, cy));
         for n in logarithm::FIRST_STEP..=input.n as u32 {
@@ -87,7 +117,7 @@ impl Fault {
             near_one = self.step(near_one, digit, n);
             answer = answer - self.entry(digit, n);
         }
-        answer
+        Some(answer)
     }
 }
 
@@ -111,12 +141,15 @@ fn one_step() {
     let real = Exp { n: 1, ex: ONE / 2, ..EXP };
     let imaginary = Exp { n: 1, ey: EY_GREATEST, ..EXP };
     let cases = [
-        (Exp { sx: -1, sy: 0, ..real }, [-2, 0], StepCut),
-        (Exp { sx: 0, sy: -1, ..real }, [0, -2], StepCut),
-        (Exp { sx: -3, sy: -5, ..real }, [-5, -8], StepCut),
-        (Exp { sx: 0, sy: 1, ..imaginary }, [-1, 1], StepCut),
-        (Exp { sx: -1, sy: 0, ..imaginary }, [-1, -1], StepCut),
-        (Exp { sx: 0, sy: 1, ..imaginary }, [-1, 1], NewX),
+        (Exp { sx: -1, sy: 0, ..real }, [-1, 0], StepHalfDown),
+        (Exp { sx: 0, sy: 1, ..real }, [0, 2], StepFloor),
+        (Exp { sx: 3, sy: -5, ..real }, [5, -7], StepFloor),
+        (Exp { sx: 3, sy: -5, ..real }, [5, -7], StepCut),
+        (Exp { sx: 3, sy: -5, ..real }, [5, -7], StepHalfDown),
+        (Exp { sx: 0, sy: -1, ..imaginary }, [1, -1], StepFloor),
+        (Exp { sx: 1, sy: 0, ..imaginary }, [1, 1], StepCut),
+        (Exp { sx: -1, sy: 0, ..imaginary }, [-1, 0], StepHalfDown),
+        (Exp { sx: 0, sy: 4, ..imaginary }, [-2, 4], NewX),
         (Exp { sx: 4, sy: 4, ..imaginary }, [2, 6], NewX),
         (Exp { sx: ONE, sy: -ONE, ..imaginary }, [3 * ONE / 2, -ONE / 2], NewX),
     ];
@@ -127,18 +160,24 @@ fn one_step() {
     }
 }
 
-/// Every N: a small negative start shows the floor, a large one the old pair and the tables.
+/// Every N: a small start shows the rounding, a large one the old pair and the tables.
 #[test]
 fn every_count_of_steps() {
     for n in 1..=40 {
         let one = Exp { n, ex: ONE / 2, ey: EY_GREATEST, sx: ONE, sy: 0 };
-        let small = Exp { sx: -1, sy: 0, ..one };
-        for (input, fault) in [(small, StepCut), (one, NewX), (one, HalfLost), (one, MinusSquares)]
-        {
+        let small = Exp { sx: 1, sy: 0, ..one };
+        for (input, fault) in [
+            (small, StepFloor),
+            (small, StepCut),
+            (small, StepHalfDown),
+            (one, NewX),
+            (one, HalfLost),
+            (one, MinusSquares),
+        ] {
             let seen = product_exp(input).unwrap();
             assert_eq!(seen, Right.exp(input), "{input:?}");
             // The first step has the digit 1 + i whatever its entry is.
-            let shows = n > 1 || fault == StepCut || fault == NewX;
+            let shows = n > 1 || !matches!(fault, HalfLost | MinusSquares);
             assert!(!shows || seen != fault.exp(input), "{fault:?} does not show at {input:?}");
         }
     }
@@ -155,7 +194,7 @@ fn scale_of_log() {
                 for q in 0..4 {
                     let Point { x, y } = turned.turned(q);
                     let input = Log { n: 40, x: x as i64, y: y as i64 };
-                    let seen = product_log(input).unwrap();
+                    let seen = product_log(input);
                     assert_eq!(seen, Right.log(input), "{input:?}");
                     assert_ne!(seen, ScaleCut.log(input), "does not show at {input:?}");
                 }
@@ -169,7 +208,7 @@ fn scale_of_log() {
 fn random_inputs() {
     const SAMPLES: usize = 100_000;
     let mut random = Random::new(14);
-    for fault in [StepCut, NewX, HalfLost, MinusSquares] {
+    for fault in [StepFloor, StepCut, StepHalfDown, NewX, HalfLost, MinusSquares] {
         let inputs = (0..SAMPLES).map(|_| exp_input(&mut random, W));
         let shown = inputs.filter(|&input| {
             product_exp(input).is_some_and(|seen| {
@@ -181,13 +220,25 @@ fn random_inputs() {
         println!("EXP, {fault:?}: {shown} of {SAMPLES}");
         assert!(shown > SAMPLES / 1000);
     }
-    for fault in [StepCut, ScaleCut, ProductCut, NewX, HalfLost, MinusSquares] {
+    for fault in [
+        StepFloor,
+        StepCut,
+        StepHalfDown,
+        ScaleCut,
+        ScaleNearest,
+        ProductCut,
+        ProductNearest,
+        NewX,
+        HalfLost,
+        MinusSquares,
+    ] {
         let inputs = (0..SAMPLES).map(|_| log_input(&mut random, W));
         let shown = inputs.filter(|&input| {
-            product_log(input).is_some_and(|seen| {
+            let seen = product_log(input);
+            seen.is_some() && {
                 assert_eq!(seen, Right.log(input), "{input:?}");
                 seen != fault.log(input)
-            })
+            }
         });
         let shown = shown.count();
         println!("LOG, {fault:?}: {shown} of {SAMPLES}");

@@ -61,7 +61,7 @@ fn between_good_lines() {
     let good = tabs("1|EXP|40|0|0|281474976710656|0");
     for line in MALFORMED {
         let seen = answers(&[&[good.clone(), tabs(line), good.clone()].join(&b'\n')]);
-        let answer = "1|EXP|40|281474976710656|0|2168";
+        let answer = "1|EXP|40|281474976710656|0|2128";
         assert_eq!(seen, tabs(&format!("BKM|48\n{answer}\n0|REF|5\n{answer}\n")), "{line:?}");
     }
 }

@@ -41,13 +41,13 @@ fn closeness(difference: Complex, larger: i128, allowed: Fixed) -> Closeness {
     Closeness { error, allowed }
 }
 
-/// The answer less start·exp(exponent), against 8M/2^N + 3N.
+/// The answer less start·exp(exponent), against 8M/2^N + 2N.
 pub fn exp_closeness(input: exponential::Input, figures: Figures, width: Width) -> Closeness {
     let n = input.n as u32;
     let larger = input.start().larger_part();
     let exact = whole(input.start()) * exponential_sum(scaled(input.exponent(), width));
     let answer = whole(point(figures.x.into(), figures.y.into()));
-    let allowed = Fixed::ratio(8 * larger, n) + Fixed::ratio(3 * i128::from(n), 0);
+    let allowed = Fixed::ratio(8 * larger, n) + Fixed::ratio(2 * i128::from(n), 0);
     closeness(answer - exact, larger, allowed)
 }
 

@@ -94,11 +94,11 @@ pub fn log_refusals() -> Vec<(Log, i64)> {
 /// Whole records of EXP that need no steps: start zero; the exponent nought, with a column that
 /// comes out even and with M a unit less and more.
 pub fn exp_records() -> Vec<(Exp, [i64; 6])> {
-    let mut cases = vec![(EXP, [0, ONE, 0, 0, 0, 2168])];
+    let mut cases = vec![(EXP, [0, ONE, 0, 0, 0, 2128])];
     for n in 1..=40 {
         for ex in [EX_LEAST, 0, EX_GREATEST] {
             for ey in [-EY_GREATEST, -1, 0, EY_GREATEST] {
-                cases.push((Exp { n, ex, ey, sx: 0, sy: 0 }, [0, 0, 0, 0, 0, 3 * n]));
+                cases.push((Exp { n, ex, ey, sx: 0, sy: 0 }, [0, 0, 0, 0, 0, 2 * n]));
             }
         }
         let even = 1 << n;
@@ -109,7 +109,7 @@ pub fn exp_records() -> Vec<(Exp, [i64; 6])> {
             (MAX_PART, 8 * (MAX_PART >> n)),
         ] {
             for (sx, sy) in [(m, 0), (-m, 1), (1, m), (0, -m)] {
-                cases.push((Exp { n, sx, sy, ..EXP }, [0, sx, sy, 0, 0, share + 3 * n]));
+                cases.push((Exp { n, sx, sy, ..EXP }, [0, sx, sy, 0, 0, share + 2 * n]));
             }
         }
     }

@@ -1,7 +1,7 @@
 //! EXP of 01.
 
 use crate::answer::{Answer, Figures, Refusal};
-use crate::point::{ceiling_quotient, point, word, Digit, Point};
+use crate::point::{ceiling_quotient, nearest_quotient, point, word, Digit, Point, Quotient};
 use crate::tables::{tables, Tables};
 use crate::width::Width;
 
@@ -68,12 +68,20 @@ pub struct Steps {
     width: Width,
     tables: &'static Tables,
     thresholds: Thresholds,
+    quotient: Quotient,
     last: Step,
 }
 
 pub fn steps(exponent: Point, start: Point, thresholds: Thresholds, width: Width) -> Steps {
     let last = Step { n: 0, digit: point(0, 0), exponent, start };
-    Steps { width, tables: tables(width), thresholds, last }
+    Steps { width, tables: tables(width), thresholds, quotient: nearest_quotient, last }
+}
+
+impl Steps {
+    /// The same steps with another quotient.
+    pub fn by(self, quotient: Quotient) -> Steps {
+        Steps { quotient, ..self }
+    }
 }
 
 impl Iterator for Steps {
@@ -89,7 +97,7 @@ impl Iterator for Steps {
             n,
             digit,
             exponent: self.last.exponent - self.tables.step(n, digit),
-            start: self.last.start.step(digit, n),
+            start: self.last.start.step_by(self.quotient, digit, n),
         };
         Some(self.last)
     }
@@ -117,7 +125,7 @@ pub fn exp(input: Input, width: Width) -> Answer {
     let n = input.n as u32;
     let run = steps(input.exponent(), input.start(), CUT, width);
     let end = run.take(n as usize).last().expect("N is at least 1");
-    let error_bound = ceiling_quotient(8 * input.start().larger_part(), n) + 3 * i128::from(n);
+    let error_bound = ceiling_quotient(8 * input.start().larger_part(), n) + 2 * i128::from(n);
     Ok(Figures {
         x: word(end.start.x),
         y: word(end.start.y),

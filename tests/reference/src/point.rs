@@ -15,9 +15,17 @@ pub fn point(x: i128, y: i128) -> Point {
     Point { x, y }
 }
 
+/// How a number over 2^n becomes whole.
+pub type Quotient = fn(i128, u32) -> i128;
+
 /// floor(a / 2^n): `>>` keeps the sign, so it goes towards minus infinity.
 pub fn floor_quotient(a: i128, n: u32) -> i128 {
     a >> n
+}
+
+/// floor(a / 2^n + 1/2): the nearest, and of two the upper one.
+pub fn nearest_quotient(a: i128, n: u32) -> i128 {
+    floor_quotient(2 * a + (1 << n), n + 1)
 }
 
 /// ceil(a / 2^n).
@@ -41,10 +49,15 @@ impl Point {
         (0..quarters).fold(self, |p, _| point(-p.y, p.x))
     }
 
-    /// 01, The step: both quotients are taken from the old pair.
+    /// 01, The step, with the quotients of 02, E1: both are taken from the old pair.
     pub fn step(self, digit: Digit, n: u32) -> Point {
+        self.step_by(nearest_quotient, digit, n)
+    }
+
+    /// The same with another quotient.
+    pub fn step_by(self, quotient: Quotient, digit: Digit, n: u32) -> Point {
         let product = digit.times(self);
-        self + point(floor_quotient(product.x, n), floor_quotient(product.y, n))
+        self + point(quotient(product.x, n), quotient(product.y, n))
     }
 
     /// M of the error bounds: the larger part in size.

@@ -17,7 +17,7 @@ use reference::width::WIDTH_48 as W;
 #[test]
 fn whole_run() {
     let input = tabs("1|EXP|40|0|0|281474976710656|0\n2|LOG|40|0|0\n3|EXP|0|0|0|0|0\n");
-    let output = tabs("BKM|48\n1|EXP|40|281474976710656|0|2168\n2|REF|4\n3|REF|1\n");
+    let output = tabs("BKM|48\n1|EXP|40|281474976710656|0|2128\n2|REF|4\n3|REF|1\n");
     assert_eq!(answer_sheet(&input, W), output);
     assert_eq!(answer_sheet(&input[..input.len() - 1], W), output);
 }
@@ -75,11 +75,15 @@ fn digits_of_log_of_one() {
     assert_eq!(run.map(|step| step.digit).collect::<Vec<_>>(), log_one_digits());
 }
 
-/// 01, Where a step goes astray: a cut towards zero, and the new x in making the new y.
+/// 02, E1, ties of both signs among them; 01, Where a step goes astray: a cut towards zero, and the
+/// new x in making the new y.
 #[test]
-fn floors_and_old_parts() {
+fn quotients_and_old_parts() {
     let (one, i) = (point(1, 0), point(0, 1));
-    assert_eq!(point(-1, 0).step(one, 1), point(-2, 0));
+    assert_eq!(point(-1, 1).step(one, 1), point(-1, 2));
+    assert_eq!(point(-3, 3).step(one, 1), point(-4, 5));
+    assert_eq!(point(-3, 3).step(one, 2), point(-4, 4));
+    assert_eq!(point(-1, 1).step(one, 2), point(-1, 1));
     assert_eq!(point(-8, 8).step(one + i, 2), point(-12, 8));
     assert_eq!(point(1, 4).step(i, 2), point(0, 4));
     assert_eq!(point(4, 4).step(i, 2), point(3, 5));

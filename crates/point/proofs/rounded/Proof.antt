@@ -1,21 +1,26 @@
 -- `point::rounded` meets its contract.
-use mathlib.Core.Path.{_≡_, _∙_, ap}
 use borrow.Author.Needs.{needs}
-use Prim.Native.Nat.{ℕ, _^_}
-use lib.IntN.{ℤ}
-use lib.Signed.{shrZ}
-use mir.Syntax.{w64}
-use mir.Val.{SFits, toZ, ofZ}
 use Rattle.word.proofs.Fits.{back}
-use Rattle.word.proofs.Shift.{sfits-shift}
-use Rattle.point.specs.Step.{quotient}
+use Rattle.point.proofs.Fits.{QuotientFits, quotient-fits, half-word, quotient-word}
 use Rattle.point.proofs.rounded.Statement.{statement}
 use Rattle.point.proofs.rounded.Tie as tie
 
--- the word of v, shifted and read back
-shifted : {v : ℤ} (n : ℕ) → SFits w64 v → toZ w64 (ofZ w64 (shrZ (toZ w64 (ofZ w64 v)) (2 ^ n))) ≡ quotient v n
-unfolding quotient
-shifted n f = ap (λ u. toZ w64 (ofZ w64 (shrZ u (2 ^ n)))) (back f) ∙ back (sfits-shift (2 ^ n) f)
+abbrev facts : (s : tie.Start) → QuotientFits (s .args .v) (s .args .n)
+facts s = quotient-fits (s .args .n) (s .pre .0) (s .pre .1)
+
+-- ---- the contract
+returns : tie.Need-returns
+returns c = let f = facts c in simp (back, half-word f, f .given, f .raised) (quotient-word f)
+
+-- ---- what the operations ask
+cast-half : tie.Need-cast-half
+cast-half c = search needs
+
+shl-half : tie.Need-shl-half
+shl-half c = search needs
+
+add-result : tie.Need-add-result
+add-result c = let f = facts c in simp (back, half-word f, f .given) (f .raised)
 
 cast-result : tie.Need-cast-result
 cast-result c = search needs
@@ -23,8 +28,5 @@ cast-result c = search needs
 shr-result : tie.Need-shr-result
 shr-result c = search needs
 
-returns : tie.Need-returns
-returns c = shifted (c .args .n) (c .fits .v)
-
 pub rounded-spec : {M : Type 1} → statement M
-rounded-spec = tie.close (tie.spec cast-result shr-result returns)
+rounded-spec = tie.close (tie.spec cast-half shl-half add-result cast-result shr-result returns)

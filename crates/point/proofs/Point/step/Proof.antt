@@ -49,7 +49,8 @@ sub-re : tie.Need-sub-re
 sub-re c = let f = facts (start c) in search needs
 
 rounded-requires : tie.Need-rounded-requires
-rounded-requires c κs = search needs
+rounded-requires c κs = let f = facts (start c) in
+    (simp (back, f .x, f .y, f .dx, f .dy, f .dx-x, f .dy-y, f .re) (f .size-re), start c .pre .1 .1)
 
 add-new-x : tie.Need-add-new-x
 add-new-x c = let f = facts (start (c .before)) in
@@ -65,7 +66,8 @@ add-im : tie.Need-add-im
 add-im c = let f = facts (start (c .before)) in search needs
 
 rounded-requires-2 : tie.Need-rounded-requires-2
-rounded-requires-2 c κs = search needs
+rounded-requires-2 c κs = let f = facts (start (c .before)) in
+    (simp (back, f .x, f .y, f .dx, f .dy, f .dx-y, f .dy-x, f .im) (f .size-im), start (c .before) .pre .1 .1)
 
 add-new-y : tie.Need-add-new-y
 add-new-y c = let f = facts (start (c .before .before)) in

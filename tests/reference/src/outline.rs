@@ -1,0 +1,48 @@
+//! A kernel's outline, and how far it drifts when it is turned to and fro: the reason for the
+//! rounding of 02, E1.
+
+use crate::exponential::{steps, CUT};
+use crate::point::{point, Point, Quotient};
+use crate::width::WIDTH_48;
+use std::f64::consts::TAU;
+
+/// A made-up kernel: a superellipse, slimmer towards its tip, with the crease as a dent below.
+/// Parts are at most `one`; the last point is the first again.
+pub fn kernel(points: usize, one: f64) -> Vec<Point> {
+    let units = |part: f64| (part * one).round() as i128;
+    (0..=points)
+        .map(|i| {
+            let (sin, cos) = (i as f64 / points as f64 * TAU).sin_cos();
+            let size = |part: f64, half_axis: f64| (part / half_axis).abs().powf(2.3);
+            let radius = (size(cos, 0.95) + size(sin, 0.42)).powf(-1.0 / 2.3);
+            let (x, y) = (radius * cos, radius * sin);
+            let crease = if y < 0.0 { 0.13 * (-(x / 0.13).powi(2)).exp() } else { 0.0 };
+            point(units(x), units(y * (1.0 - 0.25 * x) + crease))
+        })
+        .collect()
+}
+
+/// A point times exp(i·angle), angle in units, by 40 steps with a quotient of their own.
+pub fn turned_by(quotient: Quotient, p: Point, angle: i64) -> Point {
+    let steps = steps(point(0, angle.into()), p, CUT, WIDTH_48).by(quotient);
+    steps.last().expect("there are steps").start
+}
+
+/// The outline turned by the angle and back, and that again and again; `turn` turns a point. The
+/// outline as it is at first, and after each turn back. Exact turns would leave it where it was.
+pub fn to_and_fro(
+    outline: Vec<Point>,
+    angle: i64,
+    turn: impl Fn(Point, i64) -> Point,
+) -> impl Iterator<Item = Vec<Point>> {
+    let back = move |outline: &Vec<Point>| {
+        Some(outline.iter().map(|&p| turn(turn(p, angle), -angle)).collect())
+    };
+    std::iter::successors(Some(outline), back)
+}
+
+/// How far the points of an outline have moved, in units: the mean of each part.
+pub fn mean_drift(from: &[Point], to: &[Point]) -> [f64; 2] {
+    let moved = from.iter().zip(to).fold(point(0, 0), |sum, (&a, &b)| sum + (b - a));
+    [moved.x, moved.y].map(|part| part as f64 / from.len() as f64)
+}
