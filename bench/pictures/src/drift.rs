@@ -3,15 +3,13 @@
 use crate::calls;
 use crate::svg::{Axis, Page, Panel};
 use reference::exponential::Input;
-use reference::outline::{kernel, mean_drift, to_and_fro, turned_by};
+use reference::outline::{angles, kernel, mean_drift, to_and_fro, turned_by};
 use reference::point::{floor_quotient, point, word, Point};
 
 /// So small that units are seen.
 const SIZE: f64 = 2000.0;
 const POINTS: usize = 360;
 const TURNS: usize = 100;
-/// Half a radian.
-const ANGLE: i64 = 1 << 47;
 
 /// By the product.
 fn turned(p: Point, angle: i64) -> Point {
@@ -21,7 +19,7 @@ fn turned(p: Point, angle: i64) -> Point {
 }
 
 fn outlines(turn: impl Fn(Point, i64) -> Point) -> Vec<Vec<Point>> {
-    to_and_fro(kernel(POINTS, SIZE), ANGLE, turn).take(TURNS + 1).collect()
+    to_and_fro(kernel(POINTS, SIZE), angles(), turn)
 }
 
 fn units(low: f64, high: f64, marks: [f64; 4], label: &str) -> Axis {

@@ -127,7 +127,14 @@ size-floor m h x = record {
   hi = lin (x ∷ pos m ∷ shrZ x m ∷ []) (floor-hi m h x & none) (search reify depth 20) tt;
 }
 
--- the nearest whole number to a quotient is no larger than what is divided
+-- twice what the nearest whole number is off by
+pub size-off : (m : ℕ) → 0 < m → (x : ℤ) → Size (pos 2 *ℤ (pos m *ℤ nearest x m -ℤ x)) (pos m)
+size-off m h x = record {
+  lo = lin (x ∷ pos m ∷ nearest x m ∷ []) (nearest-hi m h x & none) (search reify depth 20) tt;
+  hi = lin (x ∷ pos m ∷ nearest x m ∷ []) (nearest-lo m h x & none) (search reify depth 20) tt;
+}
+
+-- which is no larger than what is divided
 pub size-nearest : {x b : ℤ} (m : ℕ) → 0 < m → Size x b → Size (nearest x m) b
 size-nearest {x} {b} m h s = record {
   lo = below-next (pos 2 *ℤ pos m) two-m (lin ρ (nearest-hi m h x & s .lo & room & pos-mono h & none) (search reify depth 20) tt);

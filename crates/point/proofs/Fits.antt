@@ -59,15 +59,21 @@ quotient-fits n s h = record {
     half = size-nat (omega (arith, few))
 
 -- half of 2^n as the code makes it, and the quotient by it
-pub half-word : {v : ℤ} {n : ℕ} → QuotientFits v n → toZ w64 (ofZ w64 (shrZ (toZ w64 (ofZ w64 (pos 1) * 2 ^ n % 2 ^ 64)) (2 ^ 1))) ≡ pos (2 ^ n / 2)
-half-word {v} {n} f = ap (λ u. toZ w64 (ofZ w64 (shrZ u 2))) (shift-left (pos 1) n (f .power) ∙ once) ∙ back (f .half)
+abbrev pub half-made : ℕ → ℤ
+half-made n = toZ w64 (ofZ w64 (shrZ (toZ w64 (ofZ w64 (pos 1) * 2 ^ n % 2 ^ 64)) (2 ^ 1)))
+
+pub half-is : {v : ℤ} {n : ℕ} → QuotientFits v n → half-made n ≡ pos (2 ^ n / 2)
+half-is {v} {n} f = ap (λ u. toZ w64 (ofZ w64 (shrZ u 2))) (shift-left (pos 1) n (f .power) ∙ once) ∙ back (f .half)
   where
     once : pos 1 *ℤ two n ≡ two n
     once = ring! ℤR (two n ∷ []) (search reify depth 20) tt
 
-pub quotient-word : {v : ℤ} {n : ℕ} → QuotientFits v n → toZ w64 (ofZ w64 (shrZ (v +ℤ pos (2 ^ n / 2)) (2 ^ n))) ≡ quotient v n
+abbrev pub quotient-made : ℤ → ℕ → ℤ
+quotient-made v n = toZ w64 (ofZ w64 (shrZ (toZ w64 (ofZ w64 (toZ w64 (ofZ w64 v) +ℤ half-made n))) (2 ^ n)))
+
+pub quotient-is : {v : ℤ} {n : ℕ} → QuotientFits v n → quotient-made v n ≡ quotient v n
 unfolding quotient
-quotient-word {v} {n} f = back (sfits-shift (2 ^ n) (f .raised)) ∙ nearest-half (2 ^ n) (two-pos n) v
+quotient-is {v} {n} f = simp (back, half-is f, f .given, f .raised) (back (sfits-shift (2 ^ n) (f .raised)) ∙ nearest-half (2 ^ n) (two-pos n) v)
 
 -- ---- a step
 pub record StepFits (n : ℕ) (d z : 𝔾) : Type 0 where

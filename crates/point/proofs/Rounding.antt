@@ -8,8 +8,7 @@ use Rattle.algebra.proofs.Reify.{reify}
 use Rattle.algebra.proofs.Order.{nonneg-pos}
 use Rattle.algebra.proofs.Linear.{lin, _&_, none}
 use Rattle.algebra.proofs.Power.{two-pos}
-use Rattle.algebra.proofs.Floor.{nearest-lo, nearest-hi}
-use Rattle.algebra.proofs.Parts.{size-nearest, parts-cancel, parts-weaken}
+use Rattle.algebra.proofs.Parts.{size-weaken, size-off, size-nearest, parts-cancel, parts-weaken}
 use Rattle.point.specs.Step.{quotient, step}
 
 -- a quotient, 2^n times, is off by at most this many half units
@@ -18,13 +17,7 @@ half-units = pos 1
 
 pub quotient-off : (v : ℤ) (n : ℕ) → Size (pos 2 *ℤ (two n *ℤ quotient v n -ℤ v)) (half-units *ℤ two n)
 unfolding quotient
-quotient-off v n = record {
-  lo = lin ρ (nearest-hi (2 ^ n) (two-pos n) v & none) (search reify depth 20) tt;
-  hi = lin ρ (nearest-lo (2 ^ n) (two-pos n) v & none) (search reify depth 20) tt;
-}
-  where
-    ρ : List ℤ
-    ρ = two n ∷ v ∷ quotient v n ∷ []
+quotient-off v n = size-weaken (size-off (2 ^ n) (two-pos n) v) (lin (two n ∷ []) none (search reify depth 20) tt)
 
 -- and no larger than v in size
 pub quotient-size : {v b : ℤ} (n : ℕ) → Size v b → Size (quotient v n) b

@@ -1,7 +1,7 @@
 //! A kernel's outline, and how far it drifts when it is turned to and fro: the reason for the
 //! rounding of 02, E1.
 
-use crate::exponential::{steps, CUT};
+use crate::exponential::{rectangle, steps, CUT};
 use crate::point::{point, Point, Quotient};
 use crate::width::WIDTH_48;
 use std::f64::consts::TAU;
@@ -28,17 +28,25 @@ pub fn turned_by(quotient: Quotient, p: Point, angle: i64) -> Point {
     steps.last().expect("there are steps").start
 }
 
-/// The outline turned by the angle and back, and that again and again; `turn` turns a point. The
-/// outline as it is at first, and after each turn back. Exact turns would leave it where it was.
+/// A hundred angles from a hundredth of the largest that EXP takes up to it, in mixed order.
+pub fn angles() -> impl Iterator<Item = i64> {
+    let [_, (_, largest)] = rectangle(WIDTH_48);
+    (1..=100).map(move |i| largest as i64 / 100 * (37 * i % 101))
+}
+
+/// The outline turned by each of the angles and back again; `turn` turns a point. First as it is,
+/// then after each turn back: exact turns would leave it where it was.
 pub fn to_and_fro(
     outline: Vec<Point>,
-    angle: i64,
+    angles: impl Iterator<Item = i64>,
     turn: impl Fn(Point, i64) -> Point,
-) -> impl Iterator<Item = Vec<Point>> {
-    let back = move |outline: &Vec<Point>| {
-        Some(outline.iter().map(|&p| turn(turn(p, angle), -angle)).collect())
-    };
-    std::iter::successors(Some(outline), back)
+) -> Vec<Vec<Point>> {
+    let mut outlines = vec![outline];
+    for angle in angles {
+        let last = &outlines[outlines.len() - 1];
+        outlines.push(last.iter().map(|&p| turn(turn(p, angle), -angle)).collect());
+    }
+    outlines
 }
 
 /// How far the points of an outline have moved, in units: the mean of each part.

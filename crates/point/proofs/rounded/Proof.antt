@@ -1,7 +1,7 @@
 -- `point::rounded` meets its contract.
 use borrow.Author.Needs.{needs}
 use Rattle.word.proofs.Fits.{back}
-use Rattle.point.proofs.Fits.{QuotientFits, quotient-fits, half-word, quotient-word}
+use Rattle.point.proofs.Fits.{QuotientFits, quotient-fits, half-is, quotient-is}
 use Rattle.point.proofs.rounded.Statement.{statement}
 use Rattle.point.proofs.rounded.Tie as tie
 
@@ -10,7 +10,7 @@ facts s = quotient-fits (s .args .n) (s .pre .0) (s .pre .1)
 
 -- ---- the contract
 returns : tie.Need-returns
-returns c = let f = facts c in simp (back, half-word f, f .given, f .raised) (quotient-word f)
+returns c = quotient-is (facts c)
 
 -- ---- what the operations ask
 cast-half : tie.Need-cast-half
@@ -20,7 +20,7 @@ shl-half : tie.Need-shl-half
 shl-half c = search needs
 
 add-result : tie.Need-add-result
-add-result c = let f = facts c in simp (back, half-word f, f .given) (f .raised)
+add-result c = let f = facts c in simp (back, half-is f, f .given) (f .raised)
 
 cast-result : tie.Need-cast-result
 cast-result c = search needs
