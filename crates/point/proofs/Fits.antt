@@ -1,22 +1,24 @@
 -- Whatever a method makes fits a word, from the parts' sizes (01, Points and units: "on parts at most 2^61 in size, where none overflows").
 use mathlib.Core.Path.{_≡_, _∙_, ap}
-use mathlib.Core.List.{[], _∷_}
-use Prim.Native.Nat.{ℕ, _*_, _/_, _%_, _^_, _≤_, _<_}
+use mathlib.Core.List.{List, [], _∷_}
+use Prim.Native.Nat.{ℕ, _+_, _*_, _-_, _/_, _^_, _≤_, _<_}
 use native.Mathlib.Omega.{arith}
 use lib.IntN.{ℤ, pos, _+ℤ_, _-ℤ_, _*ℤ_}
 use lib.Signed.{shrZ}
 use mir.Syntax.{w64}
 use mir.Val.{SFits, toZ, ofZ}
 use Rattle.algebra.specs.Gauss.{𝔾, two}
+use Rattle.algebra.specs.Order.{_⩽_}
 use Rattle.algebra.specs.Size.{Size, Parts}
-use Rattle.algebra.proofs.Integer.{ℤR}
-use Rattle.algebra.proofs.Reify.{ring!, reify}
-use Rattle.algebra.proofs.Order.{pos-inj-le}
-use Rattle.algebra.proofs.Power.{two-pos, two-mono}
-use Rattle.algebra.proofs.Floor.{nearest-half}
+use Rattle.algebra.proofs.Reify.{reify}
+use Rattle.algebra.proofs.Order.{nonneg-mul, nonneg-pos, sub-nonneg, pos-mono, pos-inj-le}
+use Rattle.algebra.proofs.Linear.{lin, _&_, _&≡_, none}
+use Rattle.algebra.proofs.Inequality.{below-next}
+use Rattle.algebra.proofs.Power.{two-pos, two≥1, two-mul, two-mono}
+use Rattle.algebra.proofs.Floor.{floor-unique, nearest-half}
 use Rattle.algebra.proofs.Parts.{size-nat, size-add, size-digit, size-neg}
-use Rattle.word.proofs.Fits.{back, zero-sub, sfits-size, sfits-pos}
-use Rattle.word.proofs.Shift.{shift-left, sfits-shift}
+use Rattle.word.proofs.Fits.{back, zero-sub, sfits-size}
+use Rattle.word.proofs.Shift.{sfits-shift}
 use Rattle.point.specs.Digit.{IsDigit}
 use Rattle.point.specs.Step.{quotient}
 use Rattle.point.proofs.Digits.{trit-size}
@@ -37,43 +39,61 @@ point-fits {z} h = record {
   minus-y = rw (zero-sub (z .im)) (sfits-size (size-neg (h .im)) tt);
 }
 
--- ---- a quotient: v, half of 2^n and their sum
+-- ---- a quotient: v, half of 2^n as the code makes it, and their sum
+abbrev pub half-made : ℕ → ℤ
+half-made n = toZ w64 (ofZ w64 (shrZ (two 62) (2 ^ (63 - n))))
+
 pub record QuotientFits (v : ℤ) (n : ℕ) : Type 0 where
   pub given : SFits w64 v
-  pub power : SFits w64 (pos 1 *ℤ two n)
-  pub half : SFits w64 (pos (2 ^ n / 2))
+  pub half : half-made n ≡ pos (2 ^ n / 2)
   pub raised : SFits w64 (v +ℤ pos (2 ^ n / 2))
 
 pub quotient-fits : {v : ℤ} (n : ℕ) → Size v (two 62) → n < 63 → QuotientFits v n
 quotient-fits n s h = record {
   given = sfits-size s tt;
-  power = sfits-pos (omega (arith, few));
-  half = sfits-size half tt;
-  raised = sfits-size (size-add s half) tt;
+  half = ap (λ u. toZ w64 (ofZ w64 u)) shifted ∙ back (sfits-size small tt);
+  raised = sfits-size (size-add s small) tt;
 }
   where
+    ρ : List ℤ
+    ρ = two (63 - n) ∷ two n ∷ pos (2 ^ n / 2) ∷ []
+
     few : 2 ^ n ≤ 2 ^ 62
     few = pos-inj-le (two-mono n 62 (omega arith))
 
-    half : Size (pos (2 ^ n / 2)) (two 61)
-    half = size-nat (omega (arith, few))
+    small : Size (pos (2 ^ n / 2)) (two 61)
+    small = size-nat (omega (arith, few))
 
--- half of 2^n as the code makes it, and the quotient by it
-abbrev pub half-made : ℕ → ℤ
-half-made n = toZ w64 (ofZ w64 (shrZ (toZ w64 (ofZ w64 (pos 1) * 2 ^ n % 2 ^ 64)) (2 ^ 1)))
+    -- 2^(63 − n) · 2^n = 2^63, and half of 2^n, twice, is 2^n or one less
+    whole : two (63 - n) *ℤ two n ≡ two 63
+    whole = two-mul (63 - n) n ∙ ap two same
+      where
+        same : 63 - n + n ≡ 63
+        same = omega arith
 
-pub half-is : {v : ℤ} {n : ℕ} → QuotientFits v n → half-made n ≡ pos (2 ^ n / 2)
-half-is {v} {n} f = ap (λ u. toZ w64 (ofZ w64 (shrZ u 2))) (shift-left (pos 1) n (f .power) ∙ once) ∙ back (f .half)
-  where
-    once : pos 1 *ℤ two n ≡ two n
-    once = ring! ℤR (two n ∷ []) (search reify depth 20) tt
+    m≥0 : pos 0 ⩽ two (63 - n)
+    m≥0 = nonneg-pos (2 ^ (63 - n))
 
+    lo : 2 * (2 ^ n / 2) ≤ 2 ^ n
+    lo = omega arith
+
+    hi : 2 ^ n ≤ 2 * (2 ^ n / 2) + 1
+    hi = omega arith
+
+    shifted : shrZ (two 62) (2 ^ (63 - n)) ≡ pos (2 ^ n / 2)
+    shifted = floor-unique (2 ^ (63 - n)) (two-pos (63 - n)) (two 62) (pos (2 ^ n / 2))
+        (below-next (pos 2) (record { le = tt }) (lin ρ (whole &≡ nonneg-mul m≥0 (sub-nonneg (pos-mono lo)) & none) (search reify depth 20) tt))
+        (below-next (pos 2) (record { le = tt }) (lin ρ (whole &≡ nonneg-mul m≥0 (sub-nonneg (pos-mono hi)) & two≥1 (63 - n) & none)
+        (search reify depth 20) tt))
+
+-- the code's word is the quotient
 abbrev pub quotient-made : ℤ → ℕ → ℤ
 quotient-made v n = toZ w64 (ofZ w64 (shrZ (toZ w64 (ofZ w64 (toZ w64 (ofZ w64 v) +ℤ half-made n))) (2 ^ n)))
 
 pub quotient-is : {v : ℤ} {n : ℕ} → QuotientFits v n → quotient-made v n ≡ quotient v n
 unfolding quotient
-quotient-is {v} {n} f = simp (back, half-is f, f .given, f .raised) (back (sfits-shift (2 ^ n) (f .raised)) ∙ nearest-half (2 ^ n) (two-pos n) v)
+quotient-is {v} {n} f = simp (back, f .half, f .given, f .raised)
+    (back (sfits-shift (2 ^ n) (f .raised)) ∙ nearest-half (2 ^ n) (two-pos n) v)
 
 -- ---- a step
 pub record StepFits (n : ℕ) (d z : 𝔾) : Type 0 where
