@@ -62,7 +62,9 @@ pub fn picture() -> String {
         plane.line(&mut page, &line, &drawn(&outlines[TURNS]), f64::INFINITY);
         let part = |i: usize, every: usize| -> Vec<(f64, f64)> {
             let drifts = outlines.iter().enumerate().step_by(every);
-            drifts.map(|(turns, outline)| (turns as f64, mean_drift(&outlines[0], outline)[i])).collect()
+            drifts
+                .map(|(turns, outline)| (turns as f64, mean_drift(&outlines[0], outline)[i]))
+                .collect()
         };
         drift.line(&mut page, &line, &part(0, 1), f64::INFINITY);
         drift.dots(&mut page, &format!("dots {name}"), &part(1, 2));
@@ -73,5 +75,7 @@ pub fn picture() -> String {
         ("line c1", "steps rounded to the nearest unit, as now"),
     ];
     page.legend(435.0, &legend.map(|(class, text)| (class.to_string(), text.to_string())));
-    page.finish("An outline turned to and fro: it creeps to the lower left by floor and stays by nearest")
+    page.finish(
+        "An outline turned to and fro: it creeps to the lower left by floor and stays by nearest",
+    )
 }

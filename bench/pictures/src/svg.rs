@@ -145,7 +145,8 @@ impl Panel {
         }
         page.path("axis", &format!("M{:.1} {:.1}V{bottom:.1}H{right:.1}", self.left, self.top));
         page.text(self.left + self.width / 2.0, bottom + 38.0, "middle", "", &self.x.label);
-        let widest = self.y.marks.iter().map(|&mark| number(mark).chars().count()).max().unwrap_or(0);
+        let widest =
+            self.y.marks.iter().map(|&mark| number(mark).chars().count()).max().unwrap_or(0);
         let beside = self.left - 16.0 - 8.0 * widest as f64;
         page.turned_text(beside, self.top + self.height / 2.0, &self.y.label);
     }

@@ -2,6 +2,7 @@
 --   Close            when each refusal is given; the answer is close, with no hypothesis left
 --   Ranges           the ranges of the figures of every answer
 --   Bound            the error bound is the least whole number that it can be
+--   Zero             a zero start answers zero
 --   Cases            the limits by 01's numbers
 --
 -- The argument, over any width F (one is 2^F units; 01 has F = 48) and any table that keeps the promise (table_numbers, Promises):
@@ -18,3 +19,4 @@ pub mod Close
 pub mod Cases
 pub mod Fits
 pub mod Ranges
+pub mod Zero

@@ -1,0 +1,60 @@
+-- A zero start (01, Edges: "start zero: answer zero"; 02, E1: "a zero start has the column 2N"), over any width and any table.
+use mathlib.Core.Path.{_≡_, refl, _∙_, ap, ap₂}
+use mathlib.Core.List.{List, [], _∷_}
+use Prim.Native.Nat.{ℕ, suc}
+use native.Mathlib.Omega.{arith}
+use lib.IntN.{ℤ, pos, natAbs, _*ℤ_}
+use Rattle.algebra.specs.Gauss.{𝔾, gi, two}
+use Rattle.algebra.specs.Size.{abs, larger}
+use Rattle.algebra.proofs.Reify.{reify}
+use Rattle.algebra.proofs.Order.{⩽-antisym}
+use Rattle.algebra.proofs.Linear.{lin, _&_, _&<_, none}
+use Rattle.algebra.proofs.Inequality.{le-cancel, below-next}
+use Rattle.algebra.proofs.Power.{two≥1}
+use Rattle.point.specs.Point.{gauss, point, nought}
+use Rattle.point.specs.Step.{step}
+use Rattle.point.proofs.Rounding.{step-nought}
+use Rattle.answer.specs.declared.Figures.{Figures}
+use Rattle.answer.specs.declared.Answer.the-variants.{Answered}
+use Rattle.table_numbers.specs.Promise.{StepTable}
+use Rattle.table_numbers.specs.Table.{stepTable}
+use Rattle.iteration.specs.declared.Mode.the-variants.{Exp}
+use Rattle.iteration.specs.Run.{state, select, next}
+use Rattle.iteration.proofs.Runs.{run-keeps}
+use Rattle.exponential.specs.Answer.{rounding-share, errorBound, ended, figures, expAnswer}
+use Rattle.exponential.proofs.Bound.{bound-enough, bound-least}
+use Rattle.exponential.proofs.Close.{Accepted, answered}
+
+-- what is answered: zero, and the rounding's share alone
+abbrev pub zero-figures : ℕ → Figures
+zero-figures n = record {
+  value = point nought;
+  «binary_exponent» = pos 0;
+  quadrant = pos 0;
+  «error_bound» = rounding-share *ℤ pos n;
+}
+
+zero-bound : (n : ℕ) → errorBound n nought ≡ rounding-share *ℤ pos n
+unfolding larger abs
+zero-bound n = ⩽-antisym
+    (below-next (two n) (two≥1 n) (lin ρ (bound-least n nought &< none) (search reify depth 20) tt))
+    (le-cancel (two n) (two≥1 n) (lin ρ (bound-enough n nought & none) (search reify depth 20) tt))
+  where
+    ρ : List ℤ
+    ρ = two n ∷ pos n ∷ errorBound n nought ∷ []
+
+module _ (F : ℕ) (t : StepTable) where
+  zero-run : (n : ℕ) (e : 𝔾) → gauss (ended F t n e nought .point) ≡ nought
+  unfolding next
+  zero-run n e = run-keeps F t Exp (λ _ x. gauss (x .point) ≡ nought) n
+      (λ i x h z. ap (λ p. step (suc i) (select F Exp (suc i) x) p) z ∙ step-nought (suc i) (select F Exp (suc i) x))
+      0 n n (state nought e) (omega arith) (omega arith) refl
+
+  pub zero-start : (n : ℕ) (e : 𝔾) → figures F t n e nought ≡ zero-figures n
+  zero-start n e = ap₂ (λ z b. record { value = point z; «binary_exponent» = pos 0; quadrant = pos 0; «error_bound» = b })
+      (zero-run n e) (zero-bound n)
+
+-- THE ANSWER to a zero start
+pub zero-answer : (n ex ey : ℤ) → Accepted 48 n (gi ex ey) nought → expAnswer n ex ey (pos 0) (pos 0) ≡ Answered (zero-figures (natAbs n))
+unfolding expAnswer
+zero-answer n ex ey a = answered 48 stepTable n (gi ex ey) nought a ∙ ap Answered (zero-start 48 stepTable (natAbs n) (gi ex ey))
