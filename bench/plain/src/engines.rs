@@ -24,9 +24,9 @@ pub struct Figures {
 const ONE: i64 = 1 << 48;
 const MAX_PART: i64 = 1 << 58;
 
-/// Rounded to the nearest; n is at least 1.
-fn step(x: i64, y: i64, dx: i64, dy: i64, n: i64) -> (i64, i64) {
-    let half = 1 << (n - 1);
+/// Rounded to the nearest: `half` is half of 2^n. Each engine makes it in the form that is the
+/// fastest there.
+fn step(x: i64, y: i64, dx: i64, dy: i64, n: i64, half: i64) -> (i64, i64) {
     (x + ((dx * x - dy * y + half) >> n), y + ((dx * y + dy * x + half) >> n))
 }
 
@@ -69,7 +69,7 @@ pub fn exp(n: i64, ex: i64, ey: i64, sx: i64, sy: i64) -> Result<Figures, Refusa
         let dx = digit(ex, (-ONE / 2) >> i, (ONE / 8 * 3) >> i);
         let dy = digit(ey, (-ONE / 4 * 3) >> i, (ONE / 16 * 13) >> i);
         let (re, im) = entry(entries, dx, dy);
-        (x, y) = step(x, y, dx, dy, i);
+        (x, y) = step(x, y, dx, dy, i, 1 << (i - 1));
         ex -= re;
         ey -= im;
     }
@@ -110,7 +110,7 @@ pub fn log(n: i64, px: i64, py: i64) -> Result<Figures, Refusal> {
         let digit = |u: i64| i64::from(u <= -half) - i64::from(u >= half);
         let (dx, dy) = (digit(x - ONE), digit(y));
         let (re, im) = entry(entries, dx, dy);
-        (x, y) = step(x, y, dx, dy, i);
+        (x, y) = step(x, y, dx, dy, i, (1 << 62) >> (63 - i));
         answer_x -= re;
         answer_y -= im;
     }

@@ -54,3 +54,8 @@ pub fn mean_drift(from: &[Point], to: &[Point]) -> [f64; 2] {
     let moved = from.iter().zip(to).fold(point(0, 0), |sum, (&a, &b)| sum + (b - a));
     [moved.x, moved.y].map(|part| part as f64 / from.len() as f64)
 }
+
+/// The part of a single point that has moved furthest.
+pub fn furthest_drift(from: &[Point], to: &[Point]) -> f64 {
+    from.iter().zip(to).map(|(&a, &b)| (b - a).larger_part()).max().unwrap_or(0) as f64
+}
