@@ -11,7 +11,7 @@
  *            8 to 15   the first part of the answer, in units
  *           16 to 23   the second part, in units
  *           24 to 31   k, the binary exponent (0 for EXP)
- *           32 to 39   q, the quadrant, 0 to 3 (0 for EXP)
+ *           32 to 39   q, the quadrant, -2 to 2 (0 for EXP)
  *           40 to 47   the error bound, in units
  *
  * The call returns the refusal number, or 0. In a refused record the other five
@@ -57,6 +57,11 @@ int64_t bkm_exp(int64_t n, int64_t ex, int64_t ey, int64_t sx, int64_t sy, uint8
  * With z the answer over 2^48, the point is 2^(48+k) * i^q * exp(z), each part in
  * units off by at most the error bound, which is 3*M/2^n rounded up; M is the larger
  * of the sizes of x and y.
+ *
+ * The point is i^q * w for a w with -wx < wy <= wx. Its angle, q quarter turns and that
+ * of w, lies above minus half a turn and at most at half a turn: q is not below zero
+ * where y is not, and else not above. A point straight to the left has q = 2, one just
+ * below it -2.
  */
 int64_t bkm_log(int64_t n, int64_t x, int64_t y, uint8_t *out, size_t out_len);
 

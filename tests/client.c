@@ -64,7 +64,10 @@ int main(void)
     check("a start of 2^58 is taken", bkm_exp(1, 0, 0, most, -most, out, 48) == 0);
 
     check("LOG of one: k is 1 and q is 0", bkm_log(40, one, 0, out, 48) == 0 && number(out, 3) == 1 && number(out, 4) == 0);
-    check("LOG of (5, -5): q is 3", bkm_log(40, 5, -5, out, 48) == 0 && number(out, 4) == 3);
+    check("LOG of (5, -5): q is -1", bkm_log(40, 5, -5, out, 48) == 0 && number(out, 4) == -1);
+    check("LOG of (-1, 0), straight to the left: q is 2", bkm_log(40, -1, 0, out, 48) == 0 && number(out, 4) == 2);
+    check("LOG of (-5, 1): q is 2", bkm_log(40, -5, 1, out, 48) == 0 && number(out, 4) == 2);
+    check("LOG of (-5, -1): q is -2", bkm_log(40, -5, -1, out, 48) == 0 && number(out, 4) == -2);
     check("LOG of zero", bkm_log(40, 0, 0, out, 48) == 4 && holds(out, 4, 0, 0, 0, 0, 0));
     check("LOG with N = 2", bkm_log(2, one, 0, out, 48) == 1 && holds(out, 1, 0, 0, 0, 0, 0));
 

@@ -56,9 +56,9 @@ pub fn picture() -> String {
         width: 385.0,
         height: 320.0,
         x: Axis {
-            low: -45.0,
-            high: 315.0,
-            marks: vec![0.0, 90.0, 180.0, 270.0],
+            low: -180.0,
+            high: 180.0,
+            marks: vec![-180.0, -90.0, 0.0, 90.0, 180.0],
             label: "angle (degrees)".to_string(),
         },
         y: Axis {
@@ -78,7 +78,7 @@ pub fn picture() -> String {
         let points = turned(&outline, angle);
         let parts: Vec<_> = points.iter().map(|p| (ones(p.x), ones(p.y))).collect();
         plane.line(&mut page, &class, &parts, 99.0);
-        // A point that turns past 315 degrees comes back at -45.
+        // A point that turns past 180 degrees comes back at -180.
         let logs: Vec<_> = points.iter().map(logarithm).collect();
         logarithms.line(&mut page, &class, &logs, 180.0);
         legend.push((class, format!("turned by {:.2}°", ones(angle).to_degrees())));

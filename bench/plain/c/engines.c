@@ -50,16 +50,16 @@ struct answer engine_log(int64_t n, int64_t px, int64_t py) {
         return refused(3);
     if (px == 0 && py == 0)
         return refused(4);
-    /* The point is i^q*(wx + i*wy) with -wx < wy <= wx. */
+    /* The point is i^q*(wx + i*wy) with -wx < wy <= wx; half a turn is written -2 where wy is above zero. */
     int64_t q, wx, wy;
     if (-px < py && py <= px) {
         q = 0, wx = px, wy = py;
     } else if (-py < -px && -px <= py) {
         q = 1, wx = py, wy = -px;
     } else if (px < -py && -py <= -px) {
-        q = 2, wx = -px, wy = -py;
+        q = py < 0 ? -2 : 2, wx = -px, wy = -py;
     } else {
-        q = 3, wx = -py, wy = px;
+        q = -1, wx = -py, wy = px;
     }
     int64_t k = 16 - __builtin_clzll((unsigned long long)wx);
     if (k <= 0) {

@@ -86,15 +86,15 @@ pub fn log(n: i64, px: i64, py: i64) -> Result<Figures, Refusal> {
     if (px, py) == (0, 0) {
         return Err(Refusal::ZeroPoint);
     }
-    // The point is i^q·(wx + i·wy) with -wx < wy <= wx.
+    // The point is i^q·(wx + i·wy) with -wx < wy <= wx; half a turn is written -2 where wy is above zero.
     let (q, wx, wy) = if -px < py && py <= px {
         (0, px, py)
     } else if -py < -px && -px <= py {
         (1, py, -px)
     } else if px < -py && -py <= -px {
-        (2, -px, -py)
+        (if py < 0 { -2 } else { 2 }, -px, -py)
     } else {
-        (3, -py, px)
+        (-1, -py, px)
     };
     let k = 16 - i64::from(wx.leading_zeros());
     let scale = |part: i64| if k <= 0 { part << -k } else { part >> k };

@@ -109,7 +109,7 @@ impl Operation for Log {
 
     /// How far the exponential of the answer is from the point.
     fn error(self, answer: &Answer) -> Fixed {
-        let factor = point(1 << (48 + answer.k), 0).turned(answer.q as u32);
+        let factor = point(1 << (48 + answer.k), 0).turned(answer.q);
         // 160 terms: a logarithm of an everyday point is at most 34 in size, and 34^160/160!
         // is below 2^-130.
         (whole(factor) * answer.value.exponential(160) - whole(self.point())).larger_part()

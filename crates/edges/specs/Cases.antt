@@ -90,8 +90,8 @@ refused r = (refusal-in, pos r)
 abbrev k= : ℤ → Field
 k= k = (binary-exponent-in, k)
 
-abbrev q= : ℕ → Field
-q= q = (quadrant-in, pos q)
+abbrev q= : ℤ → Field
+q= q = (quadrant-in, q)
 
 -- "(143552238122434, 81627743246090), which is 0.51 + 0.29i cut"
 abbrev figure : 𝔾
@@ -119,15 +119,16 @@ cases =
     ∷ exp-opens figure (d1 ∷ d1+i ∷ d-1 ∷ di ∷ di ∷ d0 ∷ d-1 ∷ d0 ∷ [])
     -- "one as its start after three of these steps: 1.640625 + 0.328125i", which is (105 + 21i)/64
     ∷ hands-out (EXP (pos 3) figure unity) (accepted ∷ (re-in, pos 461794883665920) ∷ (im-in, pos 92358976733184) ∷ [])
-    -- "LOG of (0, 5): q = 1; (5, 5): 0; (5, −5): 3; (−1, 0): 2 and k = −47"
-    ∷ hands-out (LOG (pos 40) (gi (pos 0) (pos 5))) (accepted ∷ q= 1 ∷ [])
-    ∷ hands-out (LOG (pos 40) (gi (pos 5) (pos 5))) (accepted ∷ q= 0 ∷ [])
-    ∷ hands-out (LOG (pos 40) (gi (pos 5) (minus 5))) (accepted ∷ q= 3 ∷ [])
-    ∷ hands-out (LOG (pos 40) (gi (minus 1) (pos 0))) (accepted ∷ q= 2 ∷ k= (minus 47) ∷ [])
+    -- "LOG of (0, 5): q = 1; (5, 5): 0; (5, −5): 3; (−1, 0): 2 and k = −47"; since request E2 "q = 3 is written −1, as for (5, −5)", and "a
+    -- point straight to the left keeps q = 2"
+    ∷ hands-out (LOG (pos 40) (gi (pos 0) (pos 5))) (accepted ∷ q= (pos 1) ∷ [])
+    ∷ hands-out (LOG (pos 40) (gi (pos 5) (pos 5))) (accepted ∷ q= (pos 0) ∷ [])
+    ∷ hands-out (LOG (pos 40) (gi (pos 5) (minus 5))) (accepted ∷ q= (minus 1) ∷ [])
+    ∷ hands-out (LOG (pos 40) (gi (minus 1) (pos 0))) (accepted ∷ q= (pos 2) ∷ k= (minus 47) ∷ [])
     -- "cell X = 17, Y = 1: seat (120 − 7i)/64"
     ∷ has-reciprocal (pos 17) (pos 1) (gi (pos 120) (minus 7))
     -- "LOG of one: k = 1, q = 0, digits 1, −1+i, 0 for n = 3, 4, 5"
-    ∷ hands-out (LOG (pos 40) unity) (accepted ∷ k= (pos 1) ∷ q= 0 ∷ [])
+    ∷ hands-out (LOG (pos 40) unity) (accepted ∷ k= (pos 1) ∷ q= (pos 0) ∷ [])
     ∷ log-opens unity (d1 ∷ d-1+i ∷ d0 ∷ [])
     ∷ []
 

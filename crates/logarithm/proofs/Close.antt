@@ -98,7 +98,7 @@ module _ (F : ℕ) (wide : 11 ≤ F) {n : ℤ} {p : 𝔾} (a : Accepted F n p) w
   pub M-is : turned p .re ≡ larger p
   M-is = turned-re p cone
 
-  -- "k runs from −47 to 11", and q from 0 to 3
+  -- "k runs from −47 to 11"
   pub k-low : pos 1 -ℤ pos F ⩽ binary-exponent F (turned p)
   unfolding binary-exponent
   k-low = lin (pos F ∷ pos (bit-length w) ∷ []) (pos-mono (length-pos w (cone-pos cone)) & none) (search reify depth 20) tt

@@ -4,7 +4,7 @@
 --   Bound         the error bound is the least whole number that it can be
 --
 -- The argument, over any width F up to 48 (one is 2^F units; 01 has F = 48) and any tables that keep the promise (table_numbers, Promises):
---   Quadrant      q and w are the only ones with their properties, and wx is M
+--   Quadrant      q and w are the only ones with their properties, the angle lies above −π and at most at π, and wx is M
 --   Scale         k is the only one with its property; what scaling loses, and where the scaled point lies
 --   Cell          every scaled point has its cell, and the reciprocal brings it within 7/64 of one
 --   Convergence   what the steps keep: before each step n from 4 on each part of 2^n·u is at most 3/2 in size, u the point less one; the

@@ -1,23 +1,25 @@
--- The turn (01, LOG): "the one q of 0 to 3 and the one point w with point = i^q·w and −wx < wy ≤ wx". They exist and are the only ones, and
--- wx is the point's larger part in size.
-use mathlib.Core.Path.{_≡_, refl, sym, _∙_, ap, subst}
+-- The turn (01, LOG): "the one q .. and the one point w with point = i^q·w and −wx < wy ≤ wx", q as request E2 writes it. They exist and are
+-- the only ones, the angle lies above −π and at most at π, and wx is the point's larger part in size.
+use mathlib.Core.Path.{_≡_, refl, sym, _∙_, ap, ap₂, subst}
 use mathlib.Core.List.{[], _∷_}
 use mathlib.Core.Bool.{Bool, true, false, cond, _&&_}
 use mathlib.Core.Logic.{⊎-elim}
 use Prim.Native.Nat.{ℕ, zero, suc, _<_}
 use native.Mathlib.Omega.{arith}
 use lib.Dec.{lit<}
-use lib.IntN.{ℤ, pos, negℤ, _+ℤ_, _-ℤ_, _*ℤ_}
+use borrow.Author.Tests.{ne-eqb}
+use lib.IntN.{ℤ, pos, negsuc, negℤ, _+ℤ_, _-ℤ_, _*ℤ_}
 use lib.Signed.{leZ}
-use Rattle.algebra.specs.Gauss.{_^ᵍ_, 𝔾, gi, _*ᵍ_, ιᵍ, iᵍ, conj}
+use Rattle.algebra.specs.Gauss.{_^ᵍ_, 𝔾, gi, negᵍ, _*ᵍ_, ιᵍ, iᵍ, conj}
 use Rattle.algebra.specs.Order.{_⩽_, _⋖_}
 use Rattle.algebra.specs.Size.{Within, Size, Parts, larger}
 use Rattle.algebra.proofs.Ring.{pw}
 use Rattle.algebra.proofs.Integer.{ℤR}
 use Rattle.algebra.proofs.Gauss.{gi-path, g-mul-assoc, g-mul-comm, g-mul-one}
 use Rattle.algebra.proofs.Reify.{ring!, reify}
-use Rattle.algebra.proofs.Order.{⩽-antisym, le-or-gt, tested, tested<}
-use Rattle.algebra.proofs.Linear.{lin, lin<, lin-false, _&_, _&<_, none}
+use Rattle.algebra.proofs.Order.{⩽-antisym, pos-inj-le, le-or-gt, tested, tested<}
+use Rattle.algebra.proofs.Inequality.{neg-mono}
+use Rattle.algebra.proofs.Linear.{lin, lin<, lin-false, _&_, _&<_, _&≡_, none}
 use Rattle.algebra.proofs.Within.{within-power}
 use Rattle.algebra.proofs.Parts.{size-neg}
 use Rattle.algebra.proofs.Larger.{larger-parts, larger-le}
@@ -36,10 +38,22 @@ i-turns-back zero z = g-mul-comm (ιᵍ (pos 1)) z ∙ g-mul-one z
 i-turns-back (suc m) z = g-mul-assoc (iᵍ ^ᵍ m) iᵍ (turn-back (turns-back m z)) ∙ ap (λ t. iᵍ ^ᵍ m *ᵍ t) (turn-i (turns-back m z))
     ∙ i-turns-back m z
 
+-- half a turn is written −2 where wy is above zero, else 2
+half-spelled : (w : 𝔾) (P : ℤ → Type 0) → (pos 0 ⋖ w .im → P (negℤ (pos 2))) → (w .im ⩽ pos 0 → P (pos 2)) → P (spelling 2 w)
+unfolding spelling
+half-spelled w P over under = tested< (λ t. P (cond t (negℤ (pos 2)) (pos 2))) (pos 0) (w .im) over under
+
 -- however it is spelled, q says as many quarter turns
 pub spelling-law : (m : ℕ) (w : 𝔾) → i^ (spelling m w) ≡ iᵍ ^ᵍ m
-unfolding spelling i^
-spelling-law m w = refl
+unfolding spelling i^ _^ᵍ_ _*ᵍ_ negᵍ ιᵍ
+spelling-law zero w = refl
+spelling-law (suc zero) w = refl
+spelling-law (suc (suc zero)) w = half-spelled w (λ q. i^ q ≡ iᵍ ^ᵍ 2) (λ _. refl) (λ _. refl)
+spelling-law (suc (suc (suc zero))) w = refl
+spelling-law (suc (suc (suc (suc m)))) w = rw (
+  ne-eqb (suc (suc (suc (suc m)))) 3 (λ e. omega (arith, e)),
+  ne-eqb (suc (suc (suc (suc m)))) 2 (λ e. omega (arith, e)),
+)
 
 pub point-is : (p : 𝔾) → i^ (quadrant p) *ᵍ turned p ≡ p
 unfolding quadrant turned
@@ -131,18 +145,86 @@ turns-back-i zero z = g-mul-comm (ιᵍ (pos 1)) z ∙ g-mul-one z
 turns-back-i (suc m) z = ap (λ t. turn-back (turns-back m t)) (g-mul-assoc (iᵍ ^ᵍ m) iᵍ z) ∙ ap turn-back (turns-back-i m (iᵍ *ᵍ z))
     ∙ turn-back-i z
 
--- so the q of 0 to 3 and the w with point = i^q·w and w in the cone are those of the definition
-pub turn-unique : (p : 𝔾) (m : ℕ) (w : 𝔾) → m < 4 → Cone w → p ≡ i^ (pos m) *ᵍ w → (quadrant p ≡ pos m) × (turned p ≡ w)
-unfolding turned quadrant spelling i^
-turn-unique p m w l h e = (ap pos same, ap (λ k. turns-back k p) same ∙ brought)
+-- ---- the spelling (request E2): q is one of −2 to 2, 2 only with wy ≤ 0 and −2 only with wy > 0. The angle of w lies above −π/4, at most
+-- at π/4, and has wy's sign, so q·π/2 and that angle together lie above −π and at most at π
+pub record Spelled (q : ℤ) (w : 𝔾) : Type 0 where
+  pub low : negℤ (pos 2) ⩽ q
+  pub high : q ⩽ pos 2
+  pub at-most : q ≡ pos 2 → w .im ⩽ pos 0
+  pub above : q ≡ negℤ (pos 2) → pos 0 ⋖ w .im
+
+-- less than half a turn has one spelling
+less-spelled : (q : ℤ) (w : 𝔾) → negℤ (pos 1) ⩽ q → q ⩽ pos 1 → Spelled q w
+less-spelled q w lo hi = record {
+  low = lin (q ∷ []) (lo & none) (search reify depth 20) tt;
+  high = lin (q ∷ []) (hi & none) (search reify depth 20) tt;
+  at-most = λ e. absurd (lin-false (q ∷ []) (hi & e &≡ none) (search reify depth 20) tt);
+  above = λ e. absurd (lin-false (q ∷ []) (lo & e &≡ none) (search reify depth 20) tt);
+}
+
+-- every number of quarter turns is spelled so
+spelled : (m : ℕ) (w : 𝔾) → m < 4 → Spelled (spelling m w) w
+unfolding spelling
+spelled zero w l = less-spelled (pos 0) w (record { le = tt }) (record { le = tt })
+spelled (suc zero) w l = less-spelled (pos 1) w (record { le = tt }) (record { le = tt })
+spelled (suc (suc zero)) w l = half-spelled w (λ q. Spelled q w)
+    (λ over. record {
+      low = record { le = tt };
+      high = record { le = tt };
+      at-most = λ e. absurd (lin-false [] (e &≡ none) (search reify depth 20) tt);
+      above = λ _. over;
+    })
+    (λ under. record {
+      low = record { le = tt };
+      high = record { le = tt };
+      at-most = λ _. under;
+      above = λ e. absurd (lin-false [] (e &≡ none) (search reify depth 20) tt);
+    })
+spelled (suc (suc (suc zero))) w l = less-spelled (negℤ (pos 1)) w (record { le = tt }) (record { le = tt })
+spelled (suc (suc (suc (suc m)))) w l = absurd (omega arith)
+
+-- and every q spelled so is that of a number of quarter turns
+turns-of : (q : ℤ) (w : 𝔾) → Spelled q w → (m : ℕ) × (m < 4) × (spelling m w ≡ q)
+unfolding spelling
+turns-of (pos zero) w h = (0, lit< tt, refl)
+turns-of (pos (suc zero)) w h = (1, lit< tt, refl)
+turns-of (pos (suc (suc zero))) w h = (
+  2,
+  lit< tt,
+  half-spelled w (λ q. q ≡ pos 2)
+      (λ over. absurd (lin-false (w .im ∷ []) (over &< h .at-most refl & none) (search reify depth 20) tt)) (λ _. refl),
+)
+turns-of (pos (suc (suc (suc n)))) w h = let l = pos-inj-le (h .high) in absurd (omega (arith, l))
+turns-of (negsuc zero) w h = (3, lit< tt, refl)
+turns-of (negsuc (suc zero)) w h = (
+  2,
+  lit< tt,
+  half-spelled w (λ q. q ≡ negsuc 1) (λ _. refl)
+      (λ under. absurd (lin-false (w .im ∷ []) (under & h .above refl &< none) (search reify depth 20) tt)),
+)
+turns-of (negsuc (suc (suc n))) w h = let l = pos-inj-le (neg-mono (h .low)) in absurd (omega (arith, l))
+
+-- so the q and the w with point = i^q·w, w in the cone and q spelled by w are those of the definition
+pub turn-unique : (p : 𝔾) (q : ℤ) (w : 𝔾) → Spelled q w → Cone w → p ≡ i^ q *ᵍ w → (quadrant p ≡ q) × (turned p ≡ w)
+unfolding turned quadrant
+turn-unique p q w s h e = (ap₂ spelling same found ∙ spells, found)
   where
+    m : ℕ
+    m = turns-of q w s .0
+
+    spells : spelling m w ≡ q
+    spells = turns-of q w s .2
+
     brought : turns-back m p ≡ w
-    brought = ap (turns-back m) e ∙ turns-back-i m w
+    brought = ap (turns-back m) (e ∙ ap (λ t. t *ᵍ w) (ap i^ (sym spells) ∙ spelling-law m w)) ∙ turns-back-i m w
 
     same : quarters p ≡ m
-    same = quarters-unique p m l (subst Cone (sym brought) h)
+    same = quarters-unique p m (turns-of q w s .1) (subst Cone (sym brought) h)
 
--- ---- existence: a point but nought has its w in the cone, and its q is one of 0 to 3
+    found : turned p ≡ w
+    found = ap (λ k. turns-back k p) same ∙ brought
+
+-- ---- existence: a point but nought has its w in the cone, and q is spelled by it
 pub turned-cone : (p : 𝔾) → pos 1 ⩽ larger p → Cone (turned p)
 unfolding turned turns-back turn-back
 turned-cone p nonzero = ⊎-elim
@@ -202,6 +284,41 @@ quarters-below p = go (inCone (turns-back 0 p)) (inCone (turns-back 1 p)) (inCon
     go false true c = lit< tt
     go false false true = lit< tt
     go false false false = lit< tt
+
+pub turn-spelled : (p : 𝔾) → Spelled (quadrant p) (turned p)
+unfolding quadrant
+turn-spelled p = spelled (quarters p) (turned p) (quarters-below p)
+
+-- ---- what the spelling is for: the angle is that of 000's logarithm. q·π/2 and the angle of w are not below nought where the point is on
+-- the axis or above it, so they are at most π there, and a point straight to the left has π; below the axis they are below nought, above −π
+pub record HalfTurn (p : 𝔾) (q : ℤ) : Type 0 where
+  pub upper : pos 0 ⩽ p .im → pos 0 ⩽ q
+  pub lower : p .im ⋖ pos 0 → q ⩽ pos 0
+
+pub half-turn : (p : 𝔾) → pos 1 ⩽ larger p → HalfTurn p (quadrant p)
+unfolding quadrant turned spelling turns-back turn-back
+half-turn p nonzero = go (quarters p) (quarters-below p) (turned-cone p nonzero)
+  where
+    y : ℤ
+    y = p .im
+
+    go : (m : ℕ) → m < 4 → Cone (turns-back m p) → HalfTurn p (spelling m (turns-back m p))
+    go zero l h = record { upper = λ _. record { le = tt }; lower = λ _. record { le = tt } }
+    go (suc zero) l h = record {
+      upper = λ _. record { le = tt };
+      lower = λ g. absurd (lin-false (y ∷ []) (cone-pos h & g &< none) (search reify depth 20) tt);
+    }
+    go (suc (suc zero)) l h = record {
+      upper = λ g. half-spelled (turns-back 2 p) (λ q. pos 0 ⩽ q)
+          (λ over. absurd (lin-false (y ∷ []) (over &< g & none) (search reify depth 20) tt)) (λ _. record { le = tt });
+      lower = λ g. half-spelled (turns-back 2 p) (λ q. q ⩽ pos 0) (λ _. record { le = tt })
+          (λ under. absurd (lin-false (y ∷ []) (under & g &< none) (search reify depth 20) tt));
+    }
+    go (suc (suc (suc zero))) l h = record {
+      upper = λ g. absurd (lin-false (y ∷ []) (cone-pos h & g & none) (search reify depth 20) tt);
+      lower = λ _. record { le = tt };
+    }
+    go (suc (suc (suc (suc m)))) l h = absurd (omega arith)
 
 -- ---- wx is M, the point's larger part in size
 pub parts-turn-back : {z : 𝔾} {b : ℤ} → Parts z b → Parts (turn-back z) b

@@ -5,7 +5,7 @@ use mathlib.Core.List.{[], _∷_}
 use Prim.Native.Nat.{ℕ, _+_, _-_, _^_, _≤_}
 use native.Mathlib.Omega.{arith}
 use lib.Dec.{lit≤}
-use lib.IntN.{ℤ, pos, negsuc, natAbs, _-ℤ_, _*ℤ_}
+use lib.IntN.{ℤ, pos, negℤ, natAbs, _-ℤ_, _*ℤ_}
 use borrow.Author.Tests.{not-true}
 use Rattle.algebra.specs.Gauss.{𝔾, gi, two}
 use Rattle.algebra.specs.Order.{_⩽_}
@@ -29,51 +29,44 @@ use Rattle.table_numbers.specs.Promise.{StepTable, ReciprocalTable}
 use Rattle.table_numbers.specs.Table.{stepTable, reciprocalTable}
 use Rattle.table_numbers.proofs.Promises.{StepPromise, ReciprocalPromise}
 use Rattle.tables.proofs.Promises.{step-promise, reciprocal-promise}
-use Rattle.logarithm.specs.Reduction.{spelling, quadrant}
 use Rattle.logarithm.specs.Answer.{isZero, figures, answer, errorBound, logAnswer}
 use Rattle.logarithm.specs.Code.{Accepted}
-use Rattle.logarithm.proofs.Close.{answer-within, k-low, k-high}
-use Rattle.logarithm.proofs.Quadrant.{quarters-below}
+use Rattle.logarithm.proofs.Close.{zero-says, answer-within, k-low, k-high}
+use Rattle.logarithm.proofs.Quadrant.{turn-spelled, HalfTurn, half-turn}
 use Rattle.logarithm.proofs.Convergence.{most}
 use Rattle.logarithm.proofs.Bound.{bound-enough, bound-least}
 
--- at F = 48: N from 3 to 40, each part of the value at most 27/16 in size, k from −47 to 11, and an error bound from 0 to 3·2^55; the
--- range of q is that of every spelling of the four turns
-pub record LogRanges (F : ℕ) (n : ℤ) (f : Figures) : Type 0 where
+-- at F = 48: N from 3 to 40, each part of the value at most 27/16 in size, k from −47 to 11, q from −2 to 2 and of the side of the axis on
+-- which the point p lies, and an error bound from 0 to 3·2^55
+pub record LogRanges (F : ℕ) (n : ℤ) (p : 𝔾) (f : Figures) : Type 0 where
   pub steps-low : pos 3 ⩽ n
   pub steps-high : n ⩽ pos (F - 8)
   pub value : Parts (gauss (f .value)) (most F)
   pub exponent-low : pos 1 -ℤ pos F ⩽ f .«binary_exponent»
   pub exponent-high : f .«binary_exponent» ⩽ pos 11
-  pub quadrant-low : negsuc 1 ⩽ f .quadrant
-  pub quadrant-high : f .quadrant ⩽ pos 3
+  pub quadrant-low : negℤ (pos 2) ⩽ f .quadrant
+  pub quadrant-high : f .quadrant ⩽ pos 2
+  pub quadrant-side : HalfTurn p (f .quadrant)
   pub bound-low : pos 0 ⩽ f .«error_bound»
   pub bound-high : f .«error_bound» ⩽ pos 3 *ℤ two (F + 7)
 
 -- of an answer, if there is one
-abbrev pub Ranged : ℕ → ℤ → Answer → Type 0
-Ranged F n (Answered f) = LogRanges F n f
-Ranged F n (Refused r) = Unit {0}
-
-quadrant-from : (p : 𝔾) → negsuc 1 ⩽ quadrant p
-unfolding quadrant spelling
-quadrant-from p = record { le = tt }
-
-quadrant-to : (p : 𝔾) → quadrant p ⩽ pos 3
-unfolding quadrant spelling
-quadrant-to p = pos-mono (omega (arith, quarters-below p))
+abbrev pub Ranged : ℕ → ℤ → 𝔾 → Answer → Type 0
+Ranged F n p (Answered f) = LogRanges F n p f
+Ranged F n p (Refused r) = Unit {0}
 
 module _ (F : ℕ) (wide : 11 ≤ F) (narrow : F ≤ 48) (steps : StepTable) (logs : ReciprocalTable)
     (entries : StepPromise F (F - 8) steps) (reciprocals : ReciprocalPromise F logs) (n : ℤ) (p : 𝔾) where
-  figures-ranges : Accepted F n p → LogRanges F n (figures F steps logs (natAbs n) p)
+  figures-ranges : Accepted F n p → LogRanges F n p (figures F steps logs (natAbs n) p)
   figures-ranges a = record {
     steps-low = subst (λ k. pos 3 ⩽ k) (sym (count .whole)) (pos-mono (count .at-least));
     steps-high = subst (λ k. k ⩽ pos (F - 8)) (sym (count .whole)) (pos-mono (count .at-most));
     value = within-parts (answer-within F wide a steps logs narrow entries reciprocals);
     exponent-low = k-low F wide a;
     exponent-high = k-high F wide a;
-    quadrant-low = quadrant-from p;
-    quadrant-high = quadrant-to p;
+    quadrant-low = turn-spelled p .low;
+    quadrant-high = turn-spelled p .high;
+    quadrant-side = half-turn p (zero-says p (a .nonzero));
     bound-low = below-next (two N) (two≥1 N) (lin (two N ∷ larger p ∷ errorBound N p ∷ [])
         (bound-enough N p & size-sign (larger-parts p .re) & two≥1 N & none) (search reify depth 20) tt);
     bound-high = bound-least N p (pos 3 *ℤ two (F + 7)) (lin (two N ∷ two (F + 10) ∷ two (F + 7) ∷ larger p ∷ [])
@@ -94,15 +87,15 @@ module _ (F : ℕ) (wide : 11 ≤ F) (narrow : F ≤ 48) (steps : StepTable) (lo
           same : F + 10 ≡ 3 + (F + 7)
           same = omega arith
 
-  pub answer-ranges : Ranged F n (answer F steps logs n p)
+  pub answer-ranges : Ranged F n p (answer F steps logs n p)
   unfolding answer
   answer-ranges =
-      unless-keeps (Ranged F n) (inSteps F 3 n) Steps _ tt
-      (λ a. unless-keeps (Ranged F n) (inParts F p) Part _ tt
-      (λ b. unless-keeps (Ranged F n) (not (isZero p)) Zero _ tt
+      unless-keeps (Ranged F n p) (inSteps F 3 n) Steps _ tt
+      (λ a. unless-keeps (Ranged F n p) (inParts F p) Part _ tt
+      (λ b. unless-keeps (Ranged F n p) (not (isZero p)) Zero _ tt
       (λ c. figures-ranges (record { steps = a; parts = b; nonzero = not-true _ c }))))
 
 -- THE RANGES of the call
-pub log-ranges : (n x y : ℤ) → Ranged 48 n (logAnswer n x y)
+pub log-ranges : (n x y : ℤ) → Ranged 48 n (gi x y) (logAnswer n x y)
 unfolding logAnswer
 log-ranges n x y = answer-ranges 48 (lit≤ tt) (lit≤ tt) stepTable reciprocalTable step-promise reciprocal-promise n (gi x y)

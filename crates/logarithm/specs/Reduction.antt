@@ -2,7 +2,7 @@
 -- One is 2^F units; 01 has F = 48.
 use mathlib.Core.Bool.{Bool, true, false, cond, _&&_}
 use Prim.Native.Nat.{ℕ, zero, suc, _-_, _^_}
-use lib.Dec.{ltb}
+use lib.Dec.{eqb, ltb}
 use lib.IntN.{ℤ, pos, negℤ, natAbs, _-ℤ_}
 use lib.Signed.{shrZ, ltZ, leZ}
 use Rattle.algebra.specs.Gauss.{𝔾, gi, ιᵍ, _*ᵍ_}
@@ -30,9 +30,10 @@ quarters p = cond (inCone (turns-back 0 p)) 0 (cond (inCone (turns-back 1 p)) 1 
 unfoldable pub turned : 𝔾 → 𝔾
 turned p = turns-back (quarters p) p
 
--- how that many quarter turns are written as q, by w
+-- how that many quarter turns are written as q, by w (request E2): "q = 3 is written −1, as for (5, −5), and q = 2 with wy above zero is
+-- written −2. A point straight to the left keeps q = 2"
 unfoldable pub spelling : ℕ → 𝔾 → ℤ
-spelling m w = pos m
+spelling m w = cond (eqb m 3) (negℤ (pos 1)) (cond (eqb m 2 && ltZ (pos 0) (w .im)) (negℤ (pos 2)) (pos m))
 
 -- q
 unfoldable pub quadrant : 𝔾 → ℤ

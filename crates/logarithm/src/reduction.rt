@@ -8,7 +8,7 @@ ghost use Rattle.algebra.specs.Rounding.{floorᵍ};
 ghost use Rattle.point.specs.Point.{gauss, point};
 ghost use Rattle.table_numbers.specs.Rows.{number};
 ghost use Rattle.table_numbers.specs.Table.{reciprocalTable};
-ghost use Rattle.logarithm.specs.Reduction.{inCone, turn-back, bits, scaled};
+ghost use Rattle.logarithm.specs.Reduction.{inCone, turn-back, spelling, bits, scaled};
 ghost use Rattle.logarithm.specs.Answer.{begun};
 ghost use Rattle.logarithm.specs.Code.{turnOf, ScalePre, ReducePre};
 use iteration::State;
@@ -17,7 +17,7 @@ use table_numbers::Entry;
 
 // ---- the turn
 
-// A point turned into the cone -x < y <= x, and the quarter turns that lead from there back.
+// A point turned into the cone -x < y <= x, and the quarter turns that lead from there back, as q is written.
 pub struct Turn {
     pub point: Point,
     pub quadrant: i64,
@@ -37,6 +37,14 @@ fn turned_back(p: Point) -> Point
     ensures { λ r. ⌜ r ≡ point (turn-back (gauss p)) ⌝ }
 {
     p.conjugate().quarter_turn().conjugate()
+}
+
+// How half a turn is written: a w above the axis is that of a point below it, which is reached backwards.
+fn half_turn(w: Point) -> i64
+    ensures { λ r. ⌜ r ≡ spelling 2 (gauss w) ⌝ }
+{
+    let y = w.y;
+    if 0 < y { -2 } else { 2 }
 }
 
 pub fn turned(p: Point) -> Turn
@@ -60,13 +68,13 @@ pub fn turned(p: Point) -> Turn
     if in_cone(p2) {
         return Turn {
             point: p2,
-            quadrant: 2,
+            quadrant: half_turn(p2),
         };
     }
     let p3 = turned_back(p2);
     Turn {
         point: p3,
-        quadrant: 3,
+        quadrant: -1,
     }
 }
 

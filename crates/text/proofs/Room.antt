@@ -8,6 +8,7 @@ use lib.ListN.{length, length-append}
 use lib.Signed.{ltZ, ltZ-yes}
 use mir.Syntax.{w64}
 use mir.Val.{SFits}
+use Rattle.algebra.specs.Gauss.{𝔾, gi}
 use Rattle.algebra.specs.Order.{_⩽_, _⋖_}
 use Rattle.algebra.proofs.Reify.{reify}
 use Rattle.algebra.proofs.Linear.{lin, lin<, _&_, _&<_, none}
@@ -100,9 +101,9 @@ exp-widths n (Answered f) r =
     and end
 exp-widths n (Refused r) h = tt
 
-log-widths : (n : ℤ) (a : Answer) → LogRanged 48 n a → Fitting kind.Log n a
+log-widths : (n : ℤ) (p : 𝔾) (a : Answer) → LogRanged 48 n p a → Fitting kind.Log n a
 unfolding recordOf
-log-widths n (Answered f) r =
+log-widths n p (Answered f) r =
     short-span 0 n (r .steps-low) (r .steps-high) tt tt
     and short-span 14 (f .value .x) (r .value .re .lo) (r .value .re .hi) tt tt
     and short-span 14 (f .value .y) (r .value .im .lo) (r .value .im .hi) tt tt
@@ -110,13 +111,13 @@ log-widths n (Answered f) r =
     and short-span 0 (f .quadrant) (r .quadrant-low) (r .quadrant-high) tt tt
     and short-span 16 (f .«error_bound») (r .bound-low) (r .bound-high) tt tt
     and end
-log-widths n (Refused r) h = tt
+log-widths n p (Refused r) h = tt
 
 pub exp-fitting : (n ex ey sx sy : ℤ) → Fitting kind.Exp n (expAnswer n ex ey sx sy)
 exp-fitting n ex ey sx sy = exp-widths n (expAnswer n ex ey sx sy) (exp-ranges n ex ey sx sy)
 
 pub log-fitting : (n x y : ℤ) → Fitting kind.Log n (logAnswer n x y)
-log-fitting n x y = log-widths n (logAnswer n x y) (log-ranges n x y)
+log-fitting n x y = log-widths n (gi x y) (logAnswer n x y) (log-ranges n x y)
 
 -- ---- the line
 refused-room : {serial refusal : ℤ} → SFits w64 serial → SFits w64 refusal → length (refusedReply serial refusal .bytes) ≤ answer-room

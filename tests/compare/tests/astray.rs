@@ -96,7 +96,7 @@ impl Fault {
     /// None when the scaled point has no cell, as it may have none by rounding up to one.
     fn log(self, input: Log) -> Option<Point> {
         let reduction = logarithm::reduce(input.point(), W);
-        let turned = input.point().turned(4 - reduction.quadrant);
+        let turned = input.point().turned(-reduction.quadrant);
         let k = reduction.binary_exponent;
         let scale = |part: i128| match k {
             ..=0 => part << -k,

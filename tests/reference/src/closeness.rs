@@ -56,7 +56,7 @@ pub fn log_closeness(input: logarithm::Input, figures: Figures, width: Width) ->
     let n = input.n as u32;
     let larger = input.point().larger_part();
     let power = i64::from(width.fraction_bits) + figures.binary_exponent;
-    let factor = point(1 << power, 0).turned(figures.quadrant.rem_euclid(4) as u32);
+    let factor = point(1 << power, 0).turned(figures.quadrant);
     let answer = point(figures.x.into(), figures.y.into());
     let exact = whole(factor) * exponential_sum(scaled(answer, width));
     closeness(exact - whole(input.point()), larger, Fixed::ratio(3 * larger, n))

@@ -132,19 +132,24 @@ pub fn log_bounds() -> Vec<(Log, i64)> {
     cases
 }
 
-/// Points with their k and q: the cases of 01, and at every k and q the ends of wx with the ends
-/// of wy.
+/// Points with their k and q, as 02, E2 writes it: the cases of 01 and E2, and at every k and after
+/// every turn the ends of wx with the ends and the middle of wy.
 pub fn log_reductions() -> Vec<(Log, [i64; 2])> {
     let at = |x, y| Log { x, y, ..LOG };
     let mut cases = vec![(LOG, [1, 0]), (at(-1, 0), [-47, 2])];
-    cases.extend([((0, 5), 1), ((5, 5), 0), ((5, -5), 3)].map(|((x, y), q)| (at(x, y), [-45, q])));
+    cases.extend([((0, 5), 1), ((5, 5), 0), ((5, -5), -1)].map(|((x, y), q)| (at(x, y), [-45, q])));
     for k in -47..=11 {
         let ends = [1 << (47 + k), ((1 << (48 + k)) - 1).min(MAX_PART)];
         for x in ends {
-            for y in [0, x, 1 - x] {
-                for q in 0..4 {
-                    let turned = point(x.into(), y.into()).turned(q);
-                    cases.push((at(turned.x as i64, turned.y as i64), [k, q.into()]));
+            for y in [0, 1, -1, x, 1 - x].into_iter().filter(|&y| -x < y && y <= x) {
+                for turns in 0..4 {
+                    let turned = point(x.into(), y.into()).turned(turns);
+                    let q = match turns {
+                        3 => -1,
+                        2 if y > 0 => -2,
+                        _ => turns,
+                    };
+                    cases.push((at(turned.x as i64, turned.y as i64), [k, q]));
                 }
             }
         }

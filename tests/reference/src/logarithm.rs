@@ -24,8 +24,8 @@ pub const FIRST_STEP: u32 = 3;
 /// A point brought near one.
 #[derive(Clone, Copy, PartialEq, Eq, Debug)]
 pub struct Reduction {
-    /// q of 01
-    pub quadrant: u32,
+    /// q of 01, as 02, E2 writes it
+    pub quadrant: i64,
     /// k of 01
     pub binary_exponent: i32,
     /// The cell of the scaled point, by X and Y.
@@ -36,11 +36,15 @@ pub struct Reduction {
 
 pub fn reduce(given: Point, width: Width) -> Reduction {
     let f = width.fraction_bits;
-    // Turn: point = i^q·w, so w is the point turned on by 4 - q.
+    // Turn: point = i^q·w, so w is the point turned back by q. Its angle is to lie above minus half a
+    // turn and at most at half a turn (02, E2): only a point below the axis is reached backwards.
     let in_cone = |w: Point| -w.x < w.y && w.y <= w.x;
-    let quadrant =
-        (0..4).find(|&q| in_cone(given.turned(4 - q))).expect("a point that is not zero");
-    let turned = given.turned(4 - quadrant);
+    let way = if given.y < 0 { -1 } else { 1 };
+    let quadrant = [0, way, 2 * way]
+        .into_iter()
+        .find(|&q| in_cone(given.turned(-q)))
+        .expect("a point that is not zero");
+    let turned = given.turned(-quadrant);
     // Scale: 2^(F-1+k) <= wx < 2^(F+k), so wx has F + k bits.
     let binary_exponent = (i128::BITS - turned.x.leading_zeros()) as i32 - f as i32;
     let scale = |part: i128| {
@@ -149,7 +153,7 @@ pub fn log(input: Input, width: Width) -> Answer {
         x: word(end.answer.x),
         y: word(end.answer.y),
         binary_exponent: reduction.binary_exponent.into(),
-        quadrant: reduction.quadrant.into(),
+        quadrant: reduction.quadrant,
         error_bound: word(ceiling_quotient(3 * input.point().larger_part(), n)),
     })
 }

@@ -45,8 +45,8 @@ impl Point {
     }
 
     /// i^quarters times the point.
-    pub fn turned(self, quarters: u32) -> Point {
-        (0..quarters).fold(self, |p, _| point(-p.y, p.x))
+    pub fn turned(self, quarters: i64) -> Point {
+        (0..quarters.rem_euclid(4)).fold(self, |p, _| point(-p.y, p.x))
     }
 
     /// 01, The step, with the quotients of 02, E1: both are taken from the old pair.

@@ -135,7 +135,7 @@ fn cell_corner(random: &mut Random, width: Width) -> Point {
     let down = if random.one_in(2) { random.between(0, side.into()) as u32 } else { 0 };
     let scale = |part: i128| floor_quotient(part << up, down);
     let nudge = point(random.nudge(), random.nudge());
-    (point(scale(corner.x), scale(corner.y)) + nudge).turned(random.between(0, 3) as u32)
+    (point(scale(corner.x), scale(corner.y)) + nudge).turned(random.between(0, 3) as i64)
 }
 
 /// A point whose residual meets a threshold of LOG at some step, give or take some units.
@@ -166,13 +166,13 @@ fn point_at_threshold(random: &mut Random, width: Width) -> Point {
         ((cx * ox + cy * oy) / norm).round() as i128 + random.nudge(),
         ((cy * ox - cx * oy) / norm).round() as i128 + random.nudge(),
     );
-    (given + moved).turned(random.between(0, 3) as u32)
+    (given + moved).turned(random.between(0, 3) as i64)
 }
 
 fn log_point(random: &mut Random, width: Width) -> Point {
     match random.between(0, 15) {
         0..=4 => point(part(random, width), part(random, width)),
-        5 => point(part(random, width), 0).turned(random.between(0, 1) as u32),
+        5 => point(part(random, width), 0).turned(random.between(0, 1) as i64),
         6..=7 => {
             let side = part(random, width);
             point(side, random.pick(&[-1, 1]) * side + random.nudge())

@@ -62,7 +62,7 @@ fn log_thresholds_and_reductions() {
         }
     }
     assert_eq!(met.len(), 38 * 2 * 2 * 2);
-    assert_eq!(scales.len(), 59 * 4);
+    assert_eq!(scales.len(), 59 * 5);
     // A cell wholly outside the cone of the turn is never met.
     let in_cone = |x: i128, y: i128| y - 1 < x + 1 && -y - 1 < x + 1;
     let all = (17..=31).step_by(2).flat_map(|x| (-31..=31).step_by(2).map(move |y| (x, y)));

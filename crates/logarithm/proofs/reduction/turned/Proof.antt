@@ -2,6 +2,7 @@
 use mathlib.Core.Path.{_≡_, refl, sym, _∙_, ap}
 use mathlib.Core.Bool.{false}
 use borrow.Author.Needs.{needs}
+use Rattle.word.proofs.Fits.{back, sfits-mag}
 use Rattle.point.specs.Point.{gauss, point}
 use Rattle.logarithm.specs.Reduction.{inCone, turn-back, turns-back, spelling}
 use Rattle.logarithm.proofs.Quadrant.{quarters-by, parts-turn-back}
@@ -51,15 +52,20 @@ twice c = c .turned-back2 .ensures ∙ ap (λ w. point (turn-back (gauss w))) (c
 in-cone-requires-3 : tie.Need-in-cone-requires-3
 in-cone-requires-3 c κs = rw (twice c) (parts-turn-back (parts-turn-back (c .before .before .before .before .before .before .pre)))
 
+half-turn-requires : tie.Need-half-turn-requires
+half-turn-requires c κs = search needs
+
 returns-3 : tie.Need-returns-3
-unfolding turns-back spelling
+unfolding turns-back
 returns-3 c =
-    let b = c .before .before in
+    let t = c .before in
+    let b = t .before .before in
     let a = b .before in
     let p = a .before .before .before .before .before .args .p in
     let e = twice b in
+    let q = back (sfits-mag (c .half-turn .result) (c .half-turn .ok)) ∙ (c .half-turn .ensures ∙ ap (λ w. spelling 2 (gauss w)) e) in
     turn-made p (b .turned-back2 .result) 2 _ (quarters-by (gauss p) (first (a .before .before .before)) (second a)
-    (ap (λ w. inCone (gauss w)) (sym e) ∙ (sym (c .before .in-cone3 .ensures) ∙ c .if3 .taken))) e refl
+    (ap (λ w. inCone (gauss w)) (sym e) ∙ (sym (t .before .in-cone3 .ensures) ∙ t .if3 .taken))) e q
 
 turned-back-requires-3 : tie.Need-turned-back-requires-3
 turned-back-requires-3 c κs = rw (twice (c .before .before))
@@ -90,6 +96,7 @@ turned-spec =
     returns-2
     turned-back-requires-2
     in-cone-requires-3
+    half-turn-requires
     returns-3
     turned-back-requires-3
     returns-4)
