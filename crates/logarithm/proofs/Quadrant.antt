@@ -162,24 +162,29 @@ less-spelled q w lo hi = record {
   above = λ e. absurd (lin-false (q ∷ []) (lo & e &≡ none) (search reify depth 20) tt);
 }
 
+-- half a turn has two
+half-back : (w : 𝔾) → pos 0 ⋖ w .im → Spelled (negℤ (pos 2)) w
+half-back w over = record {
+  low = record { le = tt };
+  high = record { le = tt };
+  at-most = λ e. absurd (lin-false [] (e &≡ none) (search reify depth 20) tt);
+  above = λ _. over;
+}
+
+half-on : (w : 𝔾) → w .im ⩽ pos 0 → Spelled (pos 2) w
+half-on w under = record {
+  low = record { le = tt };
+  high = record { le = tt };
+  at-most = λ _. under;
+  above = λ e. absurd (lin-false [] (e &≡ none) (search reify depth 20) tt);
+}
+
 -- every number of quarter turns is spelled so
 spelled : (m : ℕ) (w : 𝔾) → m < 4 → Spelled (spelling m w) w
 unfolding spelling
 spelled zero w l = less-spelled (pos 0) w (record { le = tt }) (record { le = tt })
 spelled (suc zero) w l = less-spelled (pos 1) w (record { le = tt }) (record { le = tt })
-spelled (suc (suc zero)) w l = half-spelled w (λ q. Spelled q w)
-    (λ over. record {
-      low = record { le = tt };
-      high = record { le = tt };
-      at-most = λ e. absurd (lin-false [] (e &≡ none) (search reify depth 20) tt);
-      above = λ _. over;
-    })
-    (λ under. record {
-      low = record { le = tt };
-      high = record { le = tt };
-      at-most = λ _. under;
-      above = λ e. absurd (lin-false [] (e &≡ none) (search reify depth 20) tt);
-    })
+spelled (suc (suc zero)) w l = half-spelled w (λ q. Spelled q w) (half-back w) (half-on w)
 spelled (suc (suc (suc zero))) w l = less-spelled (negℤ (pos 1)) w (record { le = tt }) (record { le = tt })
 spelled (suc (suc (suc (suc m)))) w l = absurd (omega arith)
 
@@ -223,6 +228,17 @@ turn-unique p q w s h e = (ap₂ spelling same found ∙ spells, found)
 
     found : turned p ≡ w
     found = ap (λ k. turns-back k p) same ∙ brought
+
+-- "A point straight to the left keeps q = 2"
+pub straight-left : (x : ℤ) → x ⋖ pos 0 → quadrant (gi x (pos 0)) ≡ pos 2
+unfolding i^ _^ᵍ_ _*ᵍ_ ιᵍ
+straight-left x h = turn-unique (gi x (pos 0)) (pos 2) (gi (negℤ x) (pos 0)) (half-on (gi (negℤ x) (pos 0)) (record { le = tt }))
+    (record {
+      lo = lin< (x ∷ []) (h &< none) (search reify depth 20) tt;
+      hi = lin (x ∷ []) (h &< none) (search reify depth 20) tt;
+    })
+    (gi-path (ring! ℤR (x ∷ []) (search reify depth 20) tt) (ring! ℤR (x ∷ []) (search reify depth 20) tt))
+    .0
 
 -- ---- existence: a point but nought has its w in the cone, and q is spelled by it
 pub turned-cone : (p : 𝔾) → pos 1 ⩽ larger p → Cone (turned p)
