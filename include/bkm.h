@@ -59,9 +59,8 @@ int64_t bkm_exp(int64_t n, int64_t ex, int64_t ey, int64_t sx, int64_t sy, uint8
  * of the sizes of x and y.
  *
  * The point is i^q * w for a w with -wx < wy <= wx. Its angle, q quarter turns and that
- * of w, lies above minus half a turn and at most at half a turn: q is not below zero
- * where y is not, and else not above. A point straight to the left has q = 2, one just
- * below it -2.
+ * of w, lies above minus half a turn and at most at half a turn: q >= 0 for y >= 0, and
+ * q <= 0 for y < 0. A point straight to the left has q = 2, one just below it -2.
  */
 int64_t bkm_log(int64_t n, int64_t x, int64_t y, uint8_t *out, size_t out_len);
 

@@ -132,8 +132,8 @@ pub fn log_bounds() -> Vec<(Log, i64)> {
     cases
 }
 
-/// Points with their k and q, as 02, E2 writes it: the cases of 01 and E2, and at every k and after
-/// every turn the ends of wx with the ends and the middle of wy.
+/// Points with their k and q, as 02, E2 writes it: the cases of 01, and at every k and after every
+/// turn the ends of wx with the ends of wy and the numbers around nought.
 pub fn log_reductions() -> Vec<(Log, [i64; 2])> {
     let at = |x, y| Log { x, y, ..LOG };
     let mut cases = vec![(LOG, [1, 0]), (at(-1, 0), [-47, 2])];
