@@ -65,9 +65,12 @@ int64_t bkm_exp(int64_t n, int64_t ex, int64_t ey, int64_t sx, int64_t sy, uint8
 int64_t bkm_log(int64_t n, int64_t x, int64_t y, uint8_t *out, size_t out_len);
 
 /* The answer to a line of a sheet, given without its newline, as the program bkm answers
- * it: its bytes, a newline at the end, from the front of out. Returns how many there are,
- * at most 128, or 0 where out_len is under 128 and nothing is written. Bytes past the
- * answer keep their values. A refused line is answered with its number in the text.
+ * it where it is the first: its bytes, a newline at the end, from the front of out.
+ * Returns how many there are, at most 128, or 0 where out_len is under 128 and nothing is
+ * written. Bytes past the answer keep their values. A refused line is answered with its
+ * number in the text: 5 for one that is malformed, or one of the numbers above. 7, a
+ * kernel number that is not above all before it on its sheet, is not among them, since
+ * the call knows of no sheet.
  */
 size_t bkm_line(const uint8_t *line, size_t line_len, uint8_t *out, size_t out_len);
 

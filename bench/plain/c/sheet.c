@@ -75,25 +75,25 @@ static char *put_refusal(char *at, int64_t serial, int64_t refusal) {
     return put_line(at, serial, "REF", &refusal, 1);
 }
 
+/* The largest serial of the lines so far that have the form. */
+static int64_t largest;
+
 static char *answer_line(const char *at, const char *end, char *out) {
     int64_t serial, v[5];
     if (!read_number(&at, end, &serial) || serial < 1 || serial > 9999999 || !read_tab(&at, end) || end - at < 3)
         return put_refusal(out, 0, 5);
-    const char *kind = at;
-    at += 3;
-    if (memcmp(kind, "EXP", 3) == 0 && read_numbers(at, end, 5, v)) {
-        struct answer a = engine_exp(v[0], v[1], v[2], v[3], v[4]);
-        if (a.refusal != 0)
-            return put_refusal(out, serial, a.refusal);
+    int is_exp = memcmp(at, "EXP", 3) == 0;
+    if (!(is_exp || memcmp(at, "LOG", 3) == 0) || !read_numbers(at + 3, end, is_exp ? 5 : 3, v))
+        return put_refusal(out, 0, 5);
+    if (serial <= largest)
+        return put_refusal(out, serial, 7);
+    largest = serial;
+    struct answer a = is_exp ? engine_exp(v[0], v[1], v[2], v[3], v[4]) : engine_log(v[0], v[1], v[2]);
+    if (a.refusal != 0)
+        return put_refusal(out, serial, a.refusal);
+    if (is_exp)
         return put_line(out, serial, "EXP", (int64_t[]){v[0], a.x, a.y, a.bound}, 4);
-    }
-    if (memcmp(kind, "LOG", 3) == 0 && read_numbers(at, end, 3, v)) {
-        struct answer a = engine_log(v[0], v[1], v[2]);
-        if (a.refusal != 0)
-            return put_refusal(out, serial, a.refusal);
-        return put_line(out, serial, "LOG", (int64_t[]){v[0], a.x, a.y, a.k, a.q, a.bound}, 6);
-    }
-    return put_refusal(out, 0, 5);
+    return put_line(out, serial, "LOG", (int64_t[]){v[0], a.x, a.y, a.k, a.q, a.bound}, 6);
 }
 
 /* ---- the streams */

@@ -10,6 +10,7 @@ pub enum Refusal {
     ZeroPoint = 4,
     Line = 5,
     Buffer = 6,
+    Serial = 7,
 }
 
 #[derive(Clone, Copy, PartialEq, Eq, Debug)]

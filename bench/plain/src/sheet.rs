@@ -42,20 +42,26 @@ fn parse(line: &[u8]) -> Option<(i64, Call)> {
     Some((serial, call))
 }
 
-/// The answer to one line, its newline included.
-pub fn answer_line(line: &[u8], out: &mut impl Write) -> io::Result<()> {
+/// The answer to one line behind others with this largest serial, its newline included.
+pub fn answer_line(largest: &mut i64, line: &[u8], out: &mut impl Write) -> io::Result<()> {
     let refuse = |out: &mut _, serial: i64, refusal: Refusal| {
         Write::write_fmt(out, format_args!("{serial}\tREF\t{}\n", refusal as i64))
     };
-    match parse(line) {
-        None => refuse(out, 0, Refusal::Line),
-        Some((serial, Call::Exp([n, ex, ey, sx, sy]))) => match exp(n, ex, ey, sx, sy) {
+    let Some((serial, call)) = parse(line) else {
+        return refuse(out, 0, Refusal::Line);
+    };
+    if serial <= *largest {
+        return refuse(out, serial, Refusal::Serial);
+    }
+    *largest = serial;
+    match call {
+        Call::Exp([n, ex, ey, sx, sy]) => match exp(n, ex, ey, sx, sy) {
             Ok(Figures { x, y, bound, .. }) => {
                 writeln!(out, "{serial}\tEXP\t{n}\t{x}\t{y}\t{bound}")
             }
             Err(refusal) => refuse(out, serial, refusal),
         },
-        Some((serial, Call::Log([n, x, y]))) => match log(n, x, y) {
+        Call::Log([n, x, y]) => match log(n, x, y) {
             Ok(Figures { x, y, k, q, bound }) => {
                 writeln!(out, "{serial}\tLOG\t{n}\t{x}\t{y}\t{k}\t{q}\t{bound}")
             }
@@ -67,8 +73,9 @@ pub fn answer_line(line: &[u8], out: &mut impl Write) -> io::Result<()> {
 pub fn answer_sheet(mut input: impl BufRead, mut out: impl Write) -> io::Result<()> {
     writeln!(out, "BKM\t48")?;
     let mut line = Vec::new();
+    let mut largest = 0;
     while input.read_until(b'\n', &mut line)? > 0 {
-        answer_line(line.strip_suffix(b"\n").unwrap_or(&line), &mut out)?;
+        answer_line(&mut largest, line.strip_suffix(b"\n").unwrap_or(&line), &mut out)?;
         line.clear();
     }
     out.flush()

@@ -3,7 +3,7 @@
 use plain::{c, engines, sheet};
 use reference::answer::write_record;
 use reference::damage::{every_damage, longest_line};
-use reference::samples::{exp_input, line, log_input, Random};
+use reference::samples::{self, exp_input, line, log_input, Random};
 use reference::width::WIDTH_48 as W;
 use reference::{exponential, logarithm};
 use std::io::Write;
@@ -54,17 +54,8 @@ fn lines() {
     for _ in 0..SAMPLES {
         let line = line(&mut random, W);
         let mut ours = Vec::new();
-        sheet::answer_line(&line, &mut ours).unwrap();
+        sheet::answer_line(&mut 0, &line, &mut ours).unwrap();
         assert_eq!(ours, reference::sheet::answer_line(&line, W).1, "{line:?}");
-    }
-}
-
-#[test]
-fn ends_of_lines() {
-    for input in ["", "\n", "\n\n", "2\tLOG\t40\t0\t0", "1\tLOG\t9\t5\t5\n\n"] {
-        let mut ours = Vec::new();
-        sheet::answer_sheet(input.as_bytes(), &mut ours).unwrap();
-        assert_eq!(ours, reference::sheet::answer_sheet(input.as_bytes(), W), "{input:?}");
     }
 }
 
@@ -80,15 +71,22 @@ fn answered_by_c(program: &str, sheet: &[u8]) -> Vec<u8> {
 }
 
 #[test]
-fn sheets_in_c() {
-    let Some(c) = c::VERSION else { return };
+fn sheets() {
     let mut random = Random::new(14);
+    let long = samples::sheet(&mut random, SAMPLES / 4, W);
     let lines: Vec<_> = (0..SAMPLES / 4).map(|_| line(&mut random, W)).collect();
-    let mut sheets = vec![vec![], b"\n".to_vec(), vec![b'7'; 200_000], lines.join(&b'\n')];
-    sheets.push([&sheets[3][..], b"\n"].concat());
-    sheets.push(every_damage(&longest_line()).join(&b'\n'));
-    for sheet in sheets {
-        let seen = answered_by_c(c.program, &sheet);
-        assert!(seen == reference::sheet::answer_sheet(&sheet, W));
+    let mut sheets = vec![long, lines.join(&b'\n'), every_damage(&longest_line()).join(&b'\n')];
+    sheets.push(vec![b'7'; 200_000]);
+    for short in ["", "\n", "\n\n", "2\tLOG\t40\t0\t0", "1\tLOG\t9\t5\t5\n\n"] {
+        sheets.push(short.into());
+    }
+    for given in sheets {
+        let wanted = reference::sheet::answer_sheet(&given, W);
+        let mut ours = Vec::new();
+        sheet::answer_sheet(&given[..], &mut ours).unwrap();
+        assert!(ours == wanted);
+        if let Some(c) = c::VERSION {
+            assert!(answered_by_c(c.program, &given) == wanted);
+        }
     }
 }

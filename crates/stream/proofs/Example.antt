@@ -3,6 +3,7 @@ use mathlib.Core.Path.{_≡_, refl, ap, _∙_}
 use mathlib.Core.List.{List, [], _∷_, _++_}
 use Prim.Native.Nat.{ℕ, _^_}
 use lib.IntN.{ℤ, pos}
+use lib.Signed.{ltZ-yes}
 use Rattle.word.specs.Compare.{between}
 use Rattle.buffer.specs.Lines.{lineBytes}
 use Rattle.scan.specs.Decimal.{value, readNatural, readNumber}
@@ -18,7 +19,8 @@ use Rattle.text.specs.declared.Line.the-variants.{Exp, Log}
 use Rattle.text.specs.Line.{EXP, REF, kindLine, lineOf, readLine}
 use Rattle.text.specs.Answer.{replyOf, reply}
 use Rattle.stream.specs.Machine.{lastLine, linesFrom, lines, answers}
-use Rattle.stream.specs.Sheet.{initial, answerLine, machine, heading, sheet}
+use Rattle.stream.specs.Sheet.{heading, sheet}
+use Rattle.stream.proofs.Rising.{serials, Rises, looksNot, rising-as-before}
 
 -- ---- the sheet, byte by byte
 -- 1|EXP|40|0|0|281474976710656|0
@@ -65,17 +67,22 @@ no-steps : recordOf (expAnswer (pos 0) (pos 0) (pos 0) (pos 0) (pos 0)) ≡ pos 
 unfolding recordOf expAnswer answer inSteps between
 no-steps = refl
 
-answer₁ : answerLine initial line₁ .bytes ≡ lineBytes (pos 1) EXP (pos 40 ∷ pos (2 ^ 48) ∷ pos 0 ∷ pos 2128 ∷ [])
-unfolding answerLine reply replyOf
+answer₁ : reply line₁ .bytes ≡ lineBytes (pos 1) EXP (pos 40 ∷ pos (2 ^ 48) ∷ pos 0 ∷ pos 2128 ∷ [])
+unfolding reply replyOf
 answer₁ = ap (λ l. replyOf l .bytes) exp₁ ∙ rw quoted-line
 
-answer₂ : answerLine initial line₂ .bytes ≡ lineBytes (pos 2) REF (pos 4 ∷ [])
-unfolding answerLine reply replyOf
+answer₂ : reply line₂ .bytes ≡ lineBytes (pos 2) REF (pos 4 ∷ [])
+unfolding reply replyOf
 answer₂ = ap (λ l. replyOf l .bytes) log₂ ∙ rw no-logarithm
 
-answer₃ : answerLine initial line₃ .bytes ≡ lineBytes (pos 3) REF (pos 1 ∷ [])
-unfolding answerLine reply replyOf
+answer₃ : reply line₃ .bytes ≡ lineBytes (pos 3) REF (pos 1 ∷ [])
+unfolding reply replyOf
 answer₃ = ap (λ l. replyOf l .bytes) exp₃ ∙ rw no-steps
+
+-- the numbers rise, so each line is answered by itself
+rises : Rises (pos 0) (serials (lines given))
+unfolding serials
+rises = rw (parted, exp₁, log₂, exp₃) (ltZ-yes tt, (ltZ-yes tt, (ltZ-yes tt, tt)))
 
 -- THE RUN: BKM|48, 1|EXP|40|281474976710656|0|2128, 2|REF|4, 3|REF|1
 pub whole-run : sheet given ≡
@@ -83,5 +90,5 @@ pub whole-run : sheet given ≡
     ++ (lineBytes (pos 1) EXP (pos 40 ∷ pos (2 ^ 48) ∷ pos 0 ∷ pos 2128 ∷ [])
     ++ (lineBytes (pos 2) REF (pos 4 ∷ [])
     ++ (lineBytes (pos 3) REF (pos 1 ∷ []) ++ [])))
-unfolding sheet answers answerLine
-whole-run = ap (λ ls. heading ++ answers machine initial ls) parted ∙ (λ i. heading ++ (answer₁ i ++ (answer₂ i ++ (answer₃ i ++ []))))
+unfolding answers
+whole-run = rising-as-before given rises ∙ (ap (λ ls. heading ++ answers looksNot tt ls) parted ∙ λ i. heading ++ (answer₁ i ++ (answer₂ i ++ (answer₃ i ++ []))))

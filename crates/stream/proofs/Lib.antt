@@ -6,4 +6,5 @@
 pub mod Pieces
 pub mod Progress
 pub mod Kept
+pub mod Rising
 pub mod Example

@@ -8,7 +8,6 @@ use lib.ListN.{length, take}
 use lib.Seq.{take-all, take-take, length-take-le}
 use borrow.Author.Tests.{ltb-true, ltb-false}
 use Rattle.buffer.proofs.Either.{either}
-use Rattle.text.specs.Answer.{reply}
 use Rattle.text.proofs.Longest.{too-long}
 use Rattle.stream.specs.declared.State.{State}
 use Rattle.stream.specs.Machine.{lastLine, linesFrom, lines, Machine, Place, kept-bytes, newLine, cut, answers, byteAnswer, byteAfter, answersFrom, placeAfter, answersAtEnd}
@@ -112,9 +111,9 @@ module _ {σ : Type 0} (m : Machine σ) where
     goes-on p q xs ys e =
         alike (λ r. cut (placeAfter m r ys)) (cut-after ys) q (placeAfter m p xs) e ∙ ap (λ r. cut r) (sym (after-append xs ys p))
 
--- ---- THE MACHINE OF 01: no line over 116 bytes has the form
+-- ---- THE MACHINE: no line over 116 bytes has the form
 pub told : (s : State) (l : List ℕ) → answerLine s (take kept-bytes l) ≡ answerLine s l
-unfolding answerLine reply
+unfolding answerLine
 told s l = either (ltb (length l) kept-bytes) (λ e. short (ltb-true (length l) kept-bytes e))
     (λ e. long (ltb-false (length l) kept-bytes e))
   where

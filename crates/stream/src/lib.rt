@@ -8,13 +8,17 @@ ghost use Rattle.text.specs.Answer.{answer-room};
 ghost use Rattle.stream.specs.Machine.{newLine, goOn, cut, lineEnd, answersFrom, placeAfter, readWithin, answersAtEnd};
 ghost use Rattle.stream.specs.Sheet.{initial, machine, heading, placeOf, unlessShort};
 ghost use Rattle.stream.specs.Code.{Wrote};
+use scan::Number;
 use text::ANSWER_ROOM;
+use text::LineAnswer;
 
 // So many bytes of a line tell its answer: no line as long has the form.
 const KEPT: usize = 117;
 
-// What the answer to a line takes from the lines before it: nothing.
-pub struct State {}
+// What the answer to a line takes from the lines before it: the largest serial of those that have the form, 0 if there is none.
+pub struct State {
+    largest: i64,
+}
 
 // A place in a sheet: the state there, and of the line that has begun what is kept.
 pub struct Place {
@@ -36,16 +40,34 @@ struct Answered {
     written: usize,
 }
 
-// THE MACHINE: a line answered in a state.
+// A line that was answered, and the largest serial with it.
+fn counted(largest: i64, a: LineAnswer) -> Answered
+    ensures { λ r. ⌜ r ≡ record { state = record { largest = largest }; written = a .written } ⌝ }
+{
+    Answered {
+        state: State { largest },
+        written: a.written,
+    }
+}
+
+// THE MACHINE: a line answered in a state. One that has the form must have a serial above the largest before it, and counts whatever it is
+// answered.
 fn next(state: State, line: &[u8], out: &mut [u8]) -> Answered
     requires { ⌜ answer-room ≤ length (now out) ⌝ }
     ensures { λ r. ⌜ Wrote (machine .next state (now (line .entry))) (now (out .entry)) (now (out .exit)) r ⌝ }
 {
-    let a = text::answer_line(line, out);
-    Answered {
-        state,
-        written: a.written,
+    let largest = state.largest;
+    let asked = text::read_line(line);
+    let Number::Is(serial) = asked.serial() else {
+        let malformed = text::reply(asked, out);
+        return counted(largest, malformed);
+    };
+    if serial <= largest {
+        let not_above = text::refuse(serial, 7, out);
+        return counted(largest, not_above);
     }
+    let own = text::reply(asked, out);
+    counted(serial, own)
 }
 
 // The place where a line begins.
@@ -112,7 +134,7 @@ fn answer_ended(place: Place, s: &[u8], from: usize, to: usize, out: &mut [u8]) 
 pub fn empty() -> Place
     ensures { λ r. ⌜ placeOf r ≡ newLine initial ⌝ }
 {
-    new_line(State {})
+    new_line(State { largest: 0 })
 }
 
 // The first line of an answer sheet.

@@ -18,6 +18,7 @@ use Rattle.buffer.specs.Decimal.{showNumber}
 use Rattle.buffer.specs.Lines.{fieldBytes, lineBytes}
 use Rattle.buffer.proofs.Written.{short, short-number}
 use Rattle.buffer.proofs.Lines.{line-length}
+use Rattle.scan.specs.declared.Number.{Number}
 use Rattle.answer.specs.declared.Refusal.the-variants.{Steps, Exponent, Part, Zero}
 use Rattle.answer.specs.declared.Answer.{Answer}
 use Rattle.answer.specs.declared.Answer.the-variants.{Answered, Refused}
@@ -28,9 +29,10 @@ use Rattle.logarithm.specs.Answer.{logAnswer}
 use Rattle.logarithm.proofs.Ranges.{Ranged as LogRanged, log-ranges}
 use Rattle.text.specs.declared.Kind.{Kind}
 use Rattle.text.specs.declared.Line.{Line}
-use Rattle.text.specs.Line.{readLine}
+use Rattle.text.specs.Line.{readLine, serialOf}
 use Rattle.text.specs.Answer.{answer-room, fieldsOf, refusedReply, answerReply, replyOf, reply}
-use Rattle.text.proofs.Serial.{IsSerial, SerialOf, line-serial}
+use Rattle.text.proofs.Serial.{IsSerial, Ranged, line-serial}
+use Rattle.scan.specs.declared.Number.the-variants as num
 use Rattle.text.specs.declared.Kind.the-variants as kind
 use Rattle.text.specs.declared.Line.the-variants as line
 
@@ -120,7 +122,7 @@ pub log-fitting : (n x y : ℤ) → Fitting kind.Log n (logAnswer n x y)
 log-fitting n x y = log-widths n (gi x y) (logAnswer n x y) (log-ranges n x y)
 
 -- ---- the line
-refused-room : {serial refusal : ℤ} → SFits w64 serial → SFits w64 refusal → length (refusedReply serial refusal .bytes) ≤ answer-room
+pub refused-room : {serial refusal : ℤ} → SFits w64 serial → SFits w64 refusal → length (refusedReply serial refusal .bytes) ≤ answer-room
 unfolding room
 refused-room {serial} {refusal} f g = line-fits {ws = 20 ∷ []} serial _ f (short-number refusal g and end) (lit≤ tt)
 
@@ -135,12 +137,11 @@ figures-room k serial n (Refused Part) s h = refused-room s (sfits-pos (lit< tt)
 figures-room k serial n (Refused Zero) s h = refused-room s (sfits-pos (lit< tt))
 
 -- the serial is a number of the machine, and need not lie in 01's range
-abbrev pub LineFits : Line → Type 0
-LineFits line.Malformed = Unit {0}
-LineFits (line.Exp serial n exponent start) = SFits w64 serial
-LineFits (line.Log serial n point) = SFits w64 serial
+abbrev pub SerialFits : Number → Type 0
+SerialFits num.Not = Unit {0}
+SerialFits (num.Is serial) = SFits w64 serial
 
-pub reply-room : (l : Line) → LineFits l → length (replyOf l .bytes) ≤ answer-room
+pub reply-room : (l : Line) → SerialFits (serialOf l) → length (replyOf l .bytes) ≤ answer-room
 unfolding replyOf
 reply-room line.Malformed f = refused-room (sfits-pos (lit< tt)) (sfits-pos (lit< tt))
 reply-room (line.Exp serial n exponent start) f = figures-room kind.Exp serial n _ f
@@ -152,11 +153,10 @@ pub serial-fits : (z : ℤ) → IsSerial z → SFits w64 z
 serial-fits z h = let b = between-true h in
     sfits-range (lin (z ∷ []) (b .0 & none) (search reify depth 20) tt) (lin< (z ∷ []) (b .1 & none) (search reify depth 20) tt)
 
-read-fits : (l : Line) → SerialOf l → LineFits l
-read-fits line.Malformed h = tt
-read-fits (line.Exp serial n exponent start) h = serial-fits serial h
-read-fits (line.Log serial n point) h = serial-fits serial h
+read-fits : (n : Number) → Ranged n → SerialFits n
+read-fits num.Not h = tt
+read-fits (num.Is serial) h = serial-fits serial h
 
 pub read-reply-room : (l : List ℕ) → length (reply l .bytes) ≤ answer-room
 unfolding reply
-read-reply-room l = reply-room (readLine l) (read-fits (readLine l) (line-serial l))
+read-reply-room l = reply-room (readLine l) (read-fits (serialOf (readLine l)) (line-serial l))

@@ -67,6 +67,12 @@ lineOf (f ∷ fs) = serialLine (readNumber f) fs
 unfoldable pub readLine : List ℕ → Line
 readLine l = lineOf (fields l)
 
+-- ---- the serial of a line that has the form
+abbrev pub serialOf : Line → Number
+serialOf Malformed = num.Not
+serialOf (Exp serial n exponent start) = num.Is serial
+serialOf (Log serial n point) = num.Is serial
+
 -- the most bytes that a line of the form has
 abbrev pub longest-line : ℕ
 longest-line = 116

@@ -4,7 +4,7 @@ ghost use lib.IntN.{pos};
 ghost use Rattle.scan.specs.Fields.{fieldsAt};
 ghost use Rattle.scan.specs.Numbers.{numbers};
 ghost use Rattle.answer.specs.Record.{recordOf};
-ghost use Rattle.text.specs.Line.{formed, expOf, logOf, kindLine, readLine};
+ghost use Rattle.text.specs.Line.{formed, expOf, logOf, kindLine, readLine, serialOf};
 ghost use Rattle.text.specs.Answer.{refusedReply, answerReply, replyOf, reply, refusalFor, countFor, outFor};
 ghost use Rattle.text.specs.Code.{Replied};
 use answer::Answer;
@@ -35,6 +35,24 @@ pub enum Line {
         point: Point,
     },
     Malformed,
+}
+
+impl Line {
+    // Its serial, if it has the form.
+    pub fn serial(self) -> Number
+        ensures { λ r. ⌜ r ≡ serialOf self ⌝ }
+    {
+        match self {
+            Line::Exp {
+                serial,
+                n,
+                exponent,
+                start,
+            } => Number::Is(serial),
+            Line::Log { serial, n, point } => Number::Is(serial),
+            Line::Malformed => Number::Not,
+        }
+    }
 }
 
 // What the call of a line gives: the refusal number or 0, and how many bytes it wrote.
@@ -163,6 +181,21 @@ fn put_answer(kind: Kind, serial: i64, n: i64, answer: Answer, out: &mut [u8]) -
             refused(serial, number, out)
         }
     }
+}
+
+// The answer to a line that is turned away under a number, which may come from the lines before it.
+pub fn refuse(serial: i64, refusal: i64, out: &mut [u8]) -> LineAnswer
+    ensures refusal { λ r. ⌜ r .refusal ≡ refusalFor (refusedReply serial refusal) (now (out .entry)) ⌝ }
+    ensures count { λ r. ⌜ r .written ≡ countFor (refusedReply serial refusal) (now (out .entry)) ⌝ }
+    ensures bytes { λ r. ⌜ now (out .exit) ≡ outFor (refusedReply serial refusal) (now (out .entry)) ⌝ }
+{
+    if out.len() < ANSWER_ROOM {
+        return LineAnswer {
+            refusal: 6,
+            written: 0,
+        };
+    }
+    refused(serial, refusal, out)
 }
 
 // The answer to a line that is read.

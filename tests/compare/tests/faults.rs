@@ -2,7 +2,7 @@
 //! standard error and what it has answered by then. Its exit status is 0 after a failure too.
 
 use compare::program::{path, start};
-use reference::samples::{line, Random};
+use reference::samples::{self, Random};
 use reference::sheet::answer_sheet;
 use reference::width::WIDTH_48;
 use std::fs;
@@ -32,8 +32,7 @@ fn piped() -> Child {
 }
 
 fn sheet_of(lines: usize) -> Vec<u8> {
-    let mut random = Random::new(20);
-    (0..lines).flat_map(|_| [line(&mut random, WIDTH_48), b"\n".to_vec()].concat()).collect()
+    samples::sheet(&mut Random::new(20), lines, WIDTH_48)
 }
 
 fn answered(sheet: &[u8]) -> Vec<u8> {

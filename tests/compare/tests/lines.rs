@@ -16,6 +16,14 @@ fn check_line(line: &[u8], answer: &str) {
     }
 }
 
+/// The call's answer to a line is that of the second implementation.
+fn check_call(line: &[u8]) {
+    let (mut seen, mut wanted) = ([0xa5; 128], [0xa5; 128]);
+    let count = compare::line(line, &mut seen);
+    assert_eq!(count, answer_into(line, &mut wanted, WIDTH_48).1);
+    assert_eq!(seen, wanted, "{:?}", String::from_utf8_lossy(line));
+}
+
 #[test]
 fn malformed() {
     for line in MALFORMED {
@@ -48,21 +56,24 @@ fn lengths() {
     }
 }
 
+/// Each line alone, and all of them on one sheet, where most numbers do not rise.
 #[test]
 fn damage_of_one_byte() {
     for line in ["1|EXP|40|-7|8|281474976710656|0", "90|LOG|3|-5|288230376151711744"] {
-        check(&[&every_damage(&tabs(line)).join(&b'\n')]);
+        let damaged = every_damage(&tabs(line));
+        damaged.iter().for_each(|line| check_call(line));
+        check(&[&damaged.join(&b'\n')]);
     }
 }
 
 /// A damaged line leaves the lines beside it as they are.
 #[test]
 fn between_good_lines() {
-    let good = tabs("1|EXP|40|0|0|281474976710656|0");
+    let [first, second] = [1, 2].map(|serial| format!("{serial}|EXP|40|0|0|281474976710656|0"));
     for line in MALFORMED {
-        let seen = answers(&[&[good.clone(), tabs(line), good.clone()].join(&b'\n')]);
-        let answer = "1|EXP|40|281474976710656|0|2128";
-        assert_eq!(seen, tabs(&format!("BKM|48\n{answer}\n0|REF|5\n{answer}\n")), "{line:?}");
+        let seen = answers(&[&tabs(&format!("{first}\n{line}\n{second}"))]);
+        let [first, second] = [1, 2].map(|s| format!("{s}|EXP|40|281474976710656|0|2128"));
+        assert_eq!(seen, tabs(&format!("BKM|48\n{first}\n0|REF|5\n{second}\n")), "{line:?}");
     }
 }
 
@@ -89,10 +100,6 @@ fn every_buffer() {
 fn random_lines() {
     let mut random = Random::new(48);
     for _ in 0..200_000 {
-        let line = samples::line(&mut random, WIDTH_48);
-        let (mut seen, mut wanted) = ([0xa5; 128], [0xa5; 128]);
-        let count = compare::line(&line, &mut seen);
-        assert_eq!(count, answer_into(&line, &mut wanted, WIDTH_48).1);
-        assert_eq!(seen, wanted, "{:?}", String::from_utf8_lossy(&line));
+        check_call(&samples::line(&mut random, WIDTH_48));
     }
 }

@@ -1,18 +1,14 @@
 //! The program on whole sheets against the second implementation.
 
-use compare::program::check;
-use reference::samples::{line, Random};
+use compare::program::{answers, check};
+use reference::damage::{not_rising, tabs};
+use reference::samples::{line, sheet, Random};
+use reference::sheet::lines;
 use reference::width::WIDTH_48;
 
 #[test]
 fn long_sheet() {
-    let mut random = Random::new(10);
-    let mut sheet = Vec::new();
-    for _ in 0..200_000 {
-        sheet.extend(line(&mut random, WIDTH_48));
-        sheet.push(b'\n');
-    }
-    check(&[&sheet]);
+    check(&[&sheet(&mut Random::new(10), 200_000, WIDTH_48)]);
 }
 
 #[test]
@@ -32,7 +28,7 @@ fn short_sheets() {
 #[test]
 fn every_split_in_two() {
     let mut random = Random::new(12);
-    let mut sheet = b"1\tEXP\t40\t0\t0\t281474976710656\t0\n\n".to_vec();
+    let mut sheet = tabs("3|LOG|40|0|0\n2|LOG|40|1|0\n3|EXP|40|0|0|1|0\n\n4|LOG|40|1|0\n");
     for _ in 0..4 {
         sheet.extend(line(&mut random, WIDTH_48));
         sheet.push(b'\n');
@@ -50,14 +46,64 @@ fn every_split_in_two() {
 fn long_answers_to_short_lines() {
     let mut random = Random::new(13);
     let mut sheet = vec![b'\n'; 70_000];
-    for _ in 0..60_000 {
-        match random.between(0, 3) {
-            0 => sheet.extend(b"1\tLOG\t3\t1\t0"),
-            1 => sheet.extend(b"1\tEXP\t1\t0\t0\t1\t0"),
-            2 => sheet.extend(b"1\tLOG\t3\t0\t0"),
-            _ => sheet.extend(vec![b'1'; random.between(0, 9) as usize]),
-        }
-        sheet.push(b'\n');
+    for serial in 1..=60_000 {
+        sheet.extend(tabs(&match random.between(0, 3) {
+            0 => format!("{serial}|LOG|3|1|0\n"),
+            1 => format!("{serial}|EXP|1|0|0|1|0\n"),
+            2 => format!("{serial}|LOG|3|0|0\n"),
+            _ => format!("{}\n", "1".repeat(random.between(0, 9) as usize)),
+        }));
     }
     check(&[&sheet]);
+}
+
+/// 02, E3, sentence by sentence.
+#[test]
+fn numbers_that_do_not_rise() {
+    for (sheet, answer) in not_rising() {
+        assert_eq!(answers(&[&sheet]), answer, "{:?}", String::from_utf8_lossy(&sheet));
+        // The last line counts without its newline too, and the answer is the same in any two pieces.
+        for at in 0..sheet.len() {
+            let (first, second) = sheet.split_at(at);
+            assert_eq!(answers(&[first, second.strip_suffix(b"\n").unwrap()]), answer, "at {at}");
+        }
+    }
+}
+
+/// The answer to a line alone, by the C call.
+fn alone(line: &[u8]) -> Vec<u8> {
+    let mut out = [0; 128];
+    let count = compare::line(line, &mut out);
+    out[..count].to_vec()
+}
+
+/// Of the lines that are answered neither 5 nor 7 the numbers rise; a 7 has a number that does
+/// not. Each line but those answered 7 is answered as if it stood alone, and so is the whole sheet
+/// without them.
+#[test]
+fn answered_numbers_rise() {
+    let sheet = sheet(&mut Random::new(15), 50_000, WIDTH_48);
+    let seen = answers(&[&sheet]);
+    let (mut largest, mut refused, mut rising, mut wanted) = (0, 0, vec![], b"BKM\t48\n".to_vec());
+    for (line, answer) in lines(&sheet).into_iter().zip(&lines(&seen)[1..]) {
+        let text = std::str::from_utf8(answer).unwrap();
+        let (serial, rest) = text.split_once('\t').unwrap();
+        let serial: i64 = serial.parse().unwrap();
+        if rest == "REF\t7" {
+            assert!(1 <= serial && serial <= largest, "{text}");
+            refused += 1;
+            continue;
+        }
+        if rest == "REF\t5" {
+            assert_eq!(serial, 0);
+        } else {
+            assert!(largest < serial, "{text}");
+            largest = serial;
+        }
+        rising.extend([line, b"\n"].concat());
+        wanted.extend(alone(line));
+        assert!(wanted.ends_with(&[answer, &b"\n"[..]].concat()), "{text}");
+    }
+    assert!(refused > 1000 && largest > 30_000, "{refused} of {largest}");
+    assert!(answers(&[&rising]) == wanted);
 }

@@ -1,4 +1,4 @@
-//! Lines that are turned away, a bar standing for the tab, and every damage of one byte.
+//! Lines and sheets that are turned away, a bar standing for the tab, and every damage of one byte.
 
 /// None is of the form of 01: each answers `0|REF|5`.
 pub const MALFORMED: [&str; 43] = [
@@ -62,6 +62,42 @@ pub const REFUSED: [(&str, &str); 12] = [
     ("7|LOG|40|0|-9223372036854775808", "7|REF|3"),
     ("7|LOG|3|0|0", "7|REF|4"),
 ];
+
+/// Sheets whose numbers do not rise (02, E3), each line beside its answer. GOOD is a line that is
+/// answered, and DONE its answer.
+const NOT_RISING: [&[(&str, &str)]; 9] = [
+    // At the top every number is above zero; a number may be left out.
+    &[("1|GOOD", "1|DONE"), ("3|GOOD", "3|DONE"), ("9999999|GOOD", "9999999|DONE")],
+    // Not above the largest before it: equal to it, or below.
+    &[("5|GOOD", "5|DONE"), ("5|GOOD", "5|REF|7"), ("4|GOOD", "4|REF|7"), ("6|GOOD", "6|DONE")],
+    // The largest and not the last: a line refused with 7 does not lower it.
+    &[("9|GOOD", "9|DONE"), ("2|GOOD", "2|REF|7"), ("3|GOOD", "3|REF|7"), ("10|GOOD", "10|DONE")],
+    // A line that is refused counts, by whatever number.
+    &[("5|LOG|40|0|0", "5|REF|4"), ("5|GOOD", "5|REF|7"), ("6|GOOD", "6|DONE")],
+    &[("7|EXP|0|0|0|0|0", "7|REF|1"), ("6|GOOD", "6|REF|7"), ("8|LOG|3|0|0", "8|REF|4")],
+    // A malformed line does not count, though its number could be read.
+    &[("90|LOG|40|1", "0|REF|5"), ("1|GOOD", "1|DONE"), ("10000000|GOOD", "0|REF|5")],
+    // It is not compared: 5 comes first.
+    &[("8|GOOD", "8|DONE"), ("8|LOG|40|1", "0|REF|5"), ("", "0|REF|5"), ("9|GOOD", "9|DONE")],
+    // 7 comes ahead of the calculation's own.
+    &[("2|GOOD", "2|DONE"), ("2|LOG|40|0|0", "2|REF|7"), ("1|EXP|0|0|0|0|0", "1|REF|7")],
+    // Behind the largest number there is, no other is answered.
+    &[("9999999|LOG|2|0|0", "9999999|REF|1"), ("9999999|GOOD", "9999999|REF|7")],
+];
+
+/// These sheets as bytes, and their answers.
+pub fn not_rising() -> Vec<(Vec<u8>, Vec<u8>)> {
+    let written = |text: &str| {
+        let text = text.replace("GOOD", "EXP|40|0|0|281474976710656|0");
+        tabs(&text.replace("DONE", "EXP|40|281474976710656|0|2128"))
+    };
+    let sheet = |lines: &&[(&str, &str)]| {
+        let (asked, answers): (Vec<_>, Vec<_>) = lines.iter().copied().unzip();
+        let answer = format!("BKM|48\n{}\n", answers.join("\n"));
+        (written(&format!("{}\n", asked.join("\n"))), written(&answer))
+    };
+    NOT_RISING.iter().map(sheet).collect()
+}
 
 /// A text with bars as bytes with tabs.
 pub fn tabs(text: &str) -> Vec<u8> {

@@ -3,7 +3,7 @@
 use crate::exponential::{self, rectangle, CUT};
 use crate::logarithm::{self, reduce, FIRST_STEP};
 use crate::point::{floor_quotient, point, Point};
-use crate::sheet::{write_line, Call, Line};
+use crate::sheet::{parse, write_line, Call, Line};
 use crate::width::Width;
 
 /// Steele, Lea and Flood's splitmix64.
@@ -189,14 +189,44 @@ pub fn log_input(random: &mut Random, width: Width) -> logarithm::Input {
     logarithm::Input { n, x: word(point.x), y: word(point.y) }
 }
 
-/// A line of a sheet without its newline: well formed three times in four.
+/// A line without its newline: well formed three times in four.
 pub fn line(random: &mut Random, width: Width) -> Vec<u8> {
+    let serial = word(random.between(1, 9_999_999));
+    numbered_line(random, serial, width)
+}
+
+/// So many lines of a sheet. Their numbers rise by one, but for one in eight, which repeats the
+/// largest before it, lies below it or leaves some out.
+pub fn sheet(random: &mut Random, lines: usize, width: Width) -> Vec<u8> {
+    let (mut sheet, mut largest) = (Vec::new(), 0);
+    for _ in 0..lines {
+        let serial = match random.between(0, 23) {
+            0 => largest.max(1),
+            1 => word(random.between(1, largest.max(1).into())),
+            2 => largest + word(random.between(2, 40)),
+            _ => largest + 1,
+        };
+        // A damage that makes the number far larger is drawn again: all behind it would be behind.
+        let (line, read) = loop {
+            let line = numbered_line(random, serial, width);
+            let read = parse(&line).map_or(0, |line| line.serial);
+            if read <= largest + 40 {
+                break (line, read);
+            }
+        };
+        largest = largest.max(read);
+        sheet.extend(line);
+        sheet.push(b'\n');
+    }
+    sheet
+}
+
+fn numbered_line(random: &mut Random, serial: i64, width: Width) -> Vec<u8> {
     let call = if random.one_in(2) {
         Call::Exp(exp_input(random, width))
     } else {
         Call::Log(log_input(random, width))
     };
-    let serial = word(random.between(1, 9_999_999));
     let mut line = write_line(Line { serial, call });
     if random.one_in(4) {
         spoil(&mut line, random);

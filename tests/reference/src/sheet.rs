@@ -1,8 +1,9 @@
-//! Sheets of 01, from bytes to bytes.
+//! Sheets of 01 whose numbers must rise (02, E3), from bytes to bytes.
 
 use crate::answer::Refusal;
 use crate::width::Width;
 use crate::{exponential, logarithm};
+use std::collections::BTreeSet;
 
 /// A lent buffer for a line's answer must have this many bytes.
 pub const LINE_BUFFER: usize = 128;
@@ -56,10 +57,20 @@ fn joined(serial: i64, kind: &str, numbers: &[i64]) -> String {
     numbers.iter().fold(format!("{serial}\t{kind}"), |text, number| format!("{text}\t{number}"))
 }
 
-/// The refusal number or 0, and the answer with its newline.
+/// The refusal number or 0, and the answer with its newline, to a line alone.
 pub fn answer_line(line: &[u8], width: Width) -> (i64, Vec<u8>) {
+    answer_behind(&mut BTreeSet::new(), line, width)
+}
+
+/// The same on a sheet, behind well-formed lines with these serials; none may reach the line's own.
+fn answer_behind(serials: &mut BTreeSet<i64>, line: &[u8], width: Width) -> (i64, Vec<u8>) {
     let (serial, answered) = match parse(line) {
-        Some(line) => (line.serial, answer_text(line, width)),
+        Some(line) => {
+            let reached = serials.range(line.serial..).next().is_some();
+            serials.insert(line.serial);
+            let own = || answer_text(line, width);
+            (line.serial, if reached { Err(Refusal::Serial) } else { own() })
+        }
         None => (0, Err(Refusal::Line)),
     };
     let (refusal, text) = match answered {
@@ -96,8 +107,9 @@ pub fn answer_into(line: &[u8], out: &mut [u8], width: Width) -> (i64, usize) {
 /// What the program writes for what it reads.
 pub fn answer_sheet(input: &[u8], width: Width) -> Vec<u8> {
     let mut output = format!("BKM\t{}\n", width.fraction_bits).into_bytes();
+    let mut serials = BTreeSet::new();
     for line in lines(input) {
-        output.extend(answer_line(line, width).1);
+        output.extend(answer_behind(&mut serials, line, width).1);
     }
     output
 }

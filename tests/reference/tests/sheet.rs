@@ -1,7 +1,7 @@
 //! Sheets: what is a line, what is a number, and every byte of the answer.
 
 use reference::answer::record;
-use reference::damage::{self, tabs, MALFORMED, REFUSED};
+use reference::damage::{self, not_rising, tabs, MALFORMED, REFUSED};
 use reference::exponential::exp;
 use reference::logarithm::log;
 use reference::samples::{self, Random};
@@ -41,8 +41,15 @@ fn ends_of_lines() {
     assert_eq!(sheet("\n\n"), "BKM|48\n0|REF|5\n0|REF|5\n");
     assert_eq!(sheet("2|LOG|40|0|0"), "BKM|48\n2|REF|4\n");
     assert_eq!(sheet("2|LOG|40|0|0\n\n"), "BKM|48\n2|REF|4\n0|REF|5\n");
-    assert_eq!(sheet("2|LOG|40|0|0\n1|LOG|2|0|0\n"), "BKM|48\n2|REF|4\n1|REF|1\n");
+    assert_eq!(sheet("1|LOG|40|0|0\n2|LOG|2|0|0\n"), "BKM|48\n1|REF|4\n2|REF|1\n");
     assert_eq!(sheet("BKM|48\n"), "BKM|48\n0|REF|5\n");
+}
+
+#[test]
+fn numbers_that_do_not_rise() {
+    for (sheet, answer) in not_rising() {
+        assert_eq!(answer_sheet(&sheet, W), answer, "{:?}", String::from_utf8_lossy(&sheet));
+    }
 }
 
 #[test]

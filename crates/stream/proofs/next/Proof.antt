@@ -1,23 +1,170 @@
--- `stream::next` meets its contract: the call of the line, with room.
-use mathlib.Core.Path.{refl}
+-- `stream::next` meets its contract: 5, then 7, then the line's own answer.
+use mathlib.Core.Path.{_≡_, refl, sym, ap, _∙_}
+use mathlib.Core.Bool.{true, false}
+use mathlib.Core.List.{List}
+use Prim.Native.Nat.{ℕ, _≤_}
+use lib.IntN.{ℤ, pos}
+use lib.ListN.{length}
+use lib.Signed.{leZ}
+use mir.Syntax.{w64}
+use mir.Val.{SFits}
 use borrow.Author.Needs.{needs}
 use borrow.Author.Tests.{le-ltb}
-use Rattle.stream.specs.Sheet.{answerLine}
+use Rattle.word.proofs.Fits.{back, sfits-mag}
+use Rattle.scan.specs.declared.Number.the-variants.{Is, Not}
+use Rattle.text.specs.Line.{readLine, serialOf}
+use Rattle.text.specs.Answer.{Reply, refusedReply, replyOf, answer-room, countFor, outFor}
+use Rattle.stream.specs.declared.State.{State}
+use Rattle.stream.specs.declared.Answered.{Answered}
+use Rattle.stream.specs.Machine.{Outcome}
+use Rattle.stream.specs.Sheet.{replyAfter, answerLine}
+use Rattle.stream.specs.Code.{Wrote}
 use Rattle.stream.proofs.next.Statement.{statement}
 use Rattle.stream.proofs.next.Tie as tie
 
-answer-line-requires : tie.Need-answer-line-requires
-answer-line-requires c κs = search needs
+-- ---- the machine's three ways
+module _ (s : State) (l : List ℕ) where
+  malformed : serialOf (readLine l) ≡ Not → answerLine s l ≡ record { bytes = replyOf (readLine l) .bytes; state = s }
+  unfolding answerLine replyAfter
+  malformed e = rw e
+
+  module _ {serial : ℤ} (e : serialOf (readLine l) ≡ Is serial) where
+    not-above : leZ serial (s .largest) ≡ true → answerLine s l ≡ record { bytes = refusedReply serial (pos 7) .bytes; state = s }
+    unfolding answerLine replyAfter
+    not-above h = rw (e, h)
+
+    above : leZ serial (s .largest) ≡ false → answerLine s l ≡ record { bytes = replyOf (readLine l) .bytes; state = record { largest = serial } }
+    unfolding answerLine replyAfter
+    above h = rw (e, h)
+
+-- with room, what a call of a line leaves
+wrote : (a : Reply) (s : State) {b b′ : List ℕ} {w : ℕ} {r : Answered} → answer-room ≤ length b →
+    (w ≡ countFor a b) × (b′ ≡ outFor a b) → r ≡ record { state = s; written = w } → Wrote (record { bytes = a .bytes; state = s }) b b′ r
+wrote a s {b} room h e =
+    let told = rw (le-ltb (length b) answer-room room) at h in
+    rw e (record { bytes = record { bytes = told .1; count = told .0 }; state = refl })
+
+-- ---- what the code has read
+module _ (n : tie.After-serial) where
+  abbrev start : tie.Start
+  start = n .before .before .before .before .before
+
+  abbrev line : List ℕ
+  line = start .args .line .now
+
+  abbrev state : State
+  state = start .args .state
+
+  asked : n .before .read-line .result ≡ readLine line
+  asked = n .before .read-line .ensures
+
+  numbered : serialOf (readLine line) ≡ n .serial .result
+  numbered = sym (n .serial .ensures ∙ ap serialOf asked)
+
+  fits : SFits w64 (state .largest)
+  fits = search needs
+
+returns : tie.Need-returns
+returns c =
+    let r = c .before .before .before in
+    let t = r .before .before in
+    let n = t .before .before in
+    rw (malformed (state n) (line n) (numbered n ∙ t .enum-told .given .1))
+    (wrote (replyOf (readLine (line n))) (state n) (start n .pre) (rw (asked n) at (r .reply .ensures .1))
+    (rw (back (fits n)) at (c .counted .ensures)))
+
+-- ---- once its serial is known
+module _ (k : tie.After-known-told) where
+  abbrev read : tie.After-serial
+  read = k .before .before .before
+
+  abbrev serial : ℤ
+  serial = k .before .serial2 .given .0 .0
+
+  serial-fits : SFits w64 serial
+  serial-fits = sfits-mag serial (k .known-told .given .0 .1)
+
+  is-serial : serialOf (readLine (line read)) ≡ Is serial
+  is-serial = numbered read ∙ k .before .serial2 .given .1
+
+returns-2 : tie.Need-returns-2
+returns-2 c =
+    let r = c .before .before .before in
+    let t = r .before .before in
+    let k = t .before in
+    let n = read k in
+    let low : leZ (serial k) (state n .largest) ≡ true = rw (back (serial-fits k), back (fits n)) at (t .if1 .taken) in
+    rw (not-above (state n) (line n) (is-serial k) low)
+    (wrote (refusedReply (serial k) (pos 7)) (state n) (start n .pre) (rw (back (serial-fits k)) at (r .refuse .ensures .1))
+    (rw (back (fits n)) at (c .counted2 .ensures)))
+
+returns-3 : tie.Need-returns-3
+returns-3 c =
+    let r = c .before .before .before in
+    let t = r .before .before in
+    let k = t .before in
+    let n = read k in
+    let high : leZ (serial k) (state n .largest) ≡ false = rw (back (serial-fits k), back (fits n)) at (t .if1 .left) in
+    rw (above (state n) (line n) (is-serial k) high)
+    (wrote (replyOf (readLine (line n))) (record { largest = serial k }) (start n .pre) (rw (asked n) at (r .reply2 .ensures .1))
+    (rw (back (serial-fits k)) at (c .counted3 .ensures)))
+
+read-line-requires : tie.Need-read-line-requires
+read-line-requires c κs = search needs
+
+serial-requires : tie.Need-serial-requires
+serial-requires c κs = search needs
+
+enum-known-serial : tie.Need-enum-known-serial
+enum-known-serial c = search needs
+
+enum-told : tie.Need-enum-told
+enum-told c = search needs
+
+reply-requires : tie.Need-reply-requires
+reply-requires c κs = search needs
+
+counted-requires : tie.Need-counted-requires
+counted-requires c κs = search needs
 
 same-length : tie.Need-same-length
 same-length c = search needs
 
-returns : tie.Need-returns
-unfolding answerLine
-returns c =
-    let a = c .before .before in
-    let told = rw (le-ltb _ _ (a .before .before .before .before .pre)) at (a .answer-line .ensures .1) in
-    record { bytes = record { bytes = told .1; count = told .0 }; state = refl }
+refuse-requires : tie.Need-refuse-requires
+refuse-requires c κs = search needs
+
+counted-requires-2 : tie.Need-counted-requires-2
+counted-requires-2 c κs = search needs
+
+same-length-2 : tie.Need-same-length-2
+same-length-2 c = search needs
+
+reply-requires-2 : tie.Need-reply-requires-2
+reply-requires-2 c κs = search needs
+
+counted-requires-3 : tie.Need-counted-requires-3
+counted-requires-3 c κs = search needs
+
+same-length-3 : tie.Need-same-length-3
+same-length-3 c = search needs
 
 pub next-spec : {M : Type 1} → statement M
-next-spec = tie.close (tie.spec answer-line-requires same-length returns)
+next-spec =
+    tie.close
+    (tie.spec
+    read-line-requires
+    serial-requires
+    enum-known-serial
+    enum-told
+    reply-requires
+    counted-requires
+    same-length
+    returns
+    refuse-requires
+    counted-requires-2
+    same-length-2
+    returns-2
+    reply-requires-2
+    counted-requires-3
+    same-length-3
+    returns-3)

@@ -11,7 +11,7 @@ use Rattle.exponential.specs.Answer.{expAnswer}
 use Rattle.logarithm.specs.Answer.{logAnswer}
 use Rattle.text.specs.declared.Line.the-variants.{Exp, Log, Malformed}
 use Rattle.text.specs.Answer.{replyOf}
-use Rattle.text.proofs.Call.{short-buffer, called}
+use Rattle.text.proofs.Call.{short-buffer, line-called}
 use Rattle.text.proofs.reply.Statement.{statement}
 use Rattle.text.proofs.reply.Tie as tie
 
@@ -68,7 +68,7 @@ unfolding replyOf
 returns-2 c =
     let p = c .before .before in
     let t = p .before .before in
-    called Malformed (t .enum-told .given .1) tt (t .before .before .if1 .left) (p .refused .ensures)
+    line-called Malformed (t .enum-told .given .1) tt (t .before .before .if1 .left) (p .refused .ensures)
 
 returns-3 : tie.Need-returns-3
 unfolding replyOf
@@ -76,7 +76,7 @@ returns-3 c =
     let p = c .before .before in
     let x = p .before .before in
     let k = x .before in
-    called (Exp (serial-exp k) (n-exp k) (exponent k) (start k)) (k .before .line .given .1) (serial-fits-exp k)
+    line-called (Exp (serial-exp k) (n-exp k) (exponent k) (start k)) (k .before .line .given .1) (serial-fits-exp k)
     (k .before .before .before .if1 .left)
     (rw (back (serial-fits-exp k), back (n-fits-exp k), exp-is x) at (p .put-answer .ensures))
 
@@ -86,7 +86,7 @@ returns-4 c =
     let p = c .before .before in
     let x = p .before .before in
     let k = x .before in
-    called (Log (serial-log k) (n-log k) (point k)) (k .before .line2 .given .1) (serial-fits-log k) (k .before .before .before .if1 .left)
+    line-called (Log (serial-log k) (n-log k) (point k)) (k .before .line2 .given .1) (serial-fits-log k) (k .before .before .before .if1 .left)
     (rw (back (serial-fits-log k), back (n-fits-log k), log-is x) at (p .put-answer2 .ensures))
 
 -- ---- the other needs
