@@ -81,10 +81,11 @@ module _ {σ : Type 0} (m : Machine σ) where
           }
 
     -- a newline with room: the line is answered
-    pub answered : {r : Place σ} {b″ : List ℕ} {w′ : ℕ} → i < length s → getD s i 0 ≡ 10 → answer-room ≤ length b - w →
-        r ≡ newLine (lineEnd m q .state) → Put b′ w (lineEnd m q .bytes) b″ w′ → w′ ≤ length b → Reached p s b b″ r (i + 1) w′
+    pub answered : {r : Place σ} {t : σ} {b″ : List ℕ} {w′ : ℕ} → i < length s → getD s i 0 ≡ 10 → answer-room ≤ length b - w →
+        r ≡ newLine t → t ≡ lineEnd m q .state → Put b′ w (lineEnd m q .bytes) b″ w′ → w′ ≤ length b → Reached p s b b″ r (i + 1) w′
     unfolding placeAfter answersFrom readWithin
-    answered {r} {b″} {w′} h e room n a k =
+    answered {r} {b″ = b″} {w′} h e room begins after a k =
+        let n : r ≡ newLine (lineEnd m q .state) = begins ∙ ap (λ (t : σ). newLine t) after in
         let more : take (i + 1) s ≡ take i s ++ 10 ∷ [] = rw (add-one i) (take-suc s i 0 h ∙ rw e) in
         let gone : drop i s ≡ 10 ∷ drop (i + 1) s = rw (add-one i) (drop-cons s i 0 h ∙ rw e) in
         let here = rw (gone, le-ltb _ _ room) at (f .rest) in

@@ -1,5 +1,5 @@
 -- `stream::feed` meets its contract: a line a turn, and the last one is left begun.
-use mathlib.Core.Path.{_≡_, ap, _∙_}
+use mathlib.Core.Path.{_≡_}
 use mathlib.Core.Logic.{⊎-elim}
 use mathlib.Core.List.{List}
 use Prim.Native.Nat.{ℕ, _≤_, _+_, _-_}
@@ -98,7 +98,8 @@ module _ (c : tie.After-answer-ended Inv-loop μ-loop) where
       let h = c .before .before .before .loop-test .taken in
       let told = c .answer-ended .ensures in
       answered machine (scanned machine (turn .loop .inv .1) e) h (e .mark h) (omega (arith, room (c .before .before), same turn))
-      (n ∙ ap (λ (s : State). newLine s) (told .state))
+      n
+      (told .state)
       (rest-put out at (within turn) (told .bytes) (c .answer-ended .kept .1 .1 .1 .1 .0))
       (omega (arith, fits, same turn))
 

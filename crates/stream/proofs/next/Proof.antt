@@ -7,7 +7,7 @@ use lib.IntN.{ℤ, pos}
 use lib.ListN.{length}
 use lib.Signed.{leZ}
 use mir.Syntax.{w64}
-use mir.Val.{SFits}
+use mir.Val.{SFits, toZ, ofZ}
 use borrow.Author.Needs.{needs}
 use borrow.Author.Tests.{le-ltb}
 use Rattle.word.proofs.Fits.{back, sfits-mag}
@@ -37,12 +37,20 @@ module _ (s : State) (l : List ℕ) where
     unfolding answerLine replyAfter
     above h = rw (e, h)
 
--- with room, what a call of a line leaves
-wrote : (a : Reply) (s : State) {b b′ : List ℕ} {w : ℕ} {r : Answered} → answer-room ≤ length b →
-    (w ≡ countFor a b) × (b′ ≡ outFor a b) → r ≡ record { state = s; written = w } → Wrote (record { bytes = a .bytes; state = s }) b b′ r
-wrote a s {b} room h e =
+-- what a call of a line leaves, and with room for it the whole; serials as the machine holds them
+abbrev Called : Reply → List ℕ → List ℕ → ℕ → Type 0
+Called a b b′ w = (w ≡ countFor a b) × (b′ ≡ outFor a b)
+
+wrote : (a : Reply) {largest : ℤ} {b b′ : List ℕ} {w : ℕ} {r : Answered} → answer-room ≤ length b → Called a b b′ w → SFits w64 largest →
+    r ≡ record { state = record { largest = toZ w64 (ofZ w64 largest) }; written = w } →
+    Wrote (record { bytes = a .bytes; state = record { largest = largest } }) b b′ r
+wrote a {b = b} room h f e =
     let told = rw (le-ltb (length b) answer-room room) at h in
-    rw e (record { bytes = record { bytes = told .1; count = told .0 }; state = refl })
+    rw e (record { bytes = record { bytes = told .1; count = told .0 }; state = rw (back f) })
+
+seven : {serial : ℤ} (b : List ℕ) {b′ : List ℕ} {w : ℕ} → SFits w64 serial →
+    Called (refusedReply (toZ w64 (ofZ w64 serial)) (pos 7)) b b′ w → Called (refusedReply serial (pos 7)) b b′ w
+seven b f h = rw (back f) at h
 
 -- ---- what the code has read
 module _ (n : tie.After-serial) where
@@ -70,8 +78,7 @@ returns c =
     let t = r .before .before in
     let n = t .before .before in
     rw (malformed (state n) (line n) (numbered n ∙ t .enum-told .given .1))
-    (wrote (replyOf (readLine (line n))) (state n) (start n .pre) (rw (asked n) at (r .reply .ensures .1))
-    (rw (back (fits n)) at (c .counted .ensures)))
+    (wrote (replyOf (readLine (line n))) (start n .pre) (rw (asked n) at (r .reply .ensures .1)) (fits n) (c .counted .ensures))
 
 -- ---- once its serial is known
 module _ (k : tie.After-known-told) where
@@ -95,8 +102,8 @@ returns-2 c =
     let n = read k in
     let low : leZ (serial k) (state n .largest) ≡ true = rw (back (serial-fits k), back (fits n)) at (t .if1 .taken) in
     rw (not-above (state n) (line n) (is-serial k) low)
-    (wrote (refusedReply (serial k) (pos 7)) (state n) (start n .pre) (rw (back (serial-fits k)) at (r .refuse .ensures .1))
-    (rw (back (fits n)) at (c .counted2 .ensures)))
+    (wrote (refusedReply (serial k) (pos 7)) (start n .pre) (seven (start n .args .out .now) (serial-fits k) (r .refuse .ensures .1)) (fits n)
+    (c .counted2 .ensures))
 
 returns-3 : tie.Need-returns-3
 returns-3 c =
@@ -106,8 +113,7 @@ returns-3 c =
     let n = read k in
     let high : leZ (serial k) (state n .largest) ≡ false = rw (back (serial-fits k), back (fits n)) at (t .if1 .left) in
     rw (above (state n) (line n) (is-serial k) high)
-    (wrote (replyOf (readLine (line n))) (record { largest = serial k }) (start n .pre) (rw (asked n) at (r .reply2 .ensures .1))
-    (rw (back (serial-fits k)) at (c .counted3 .ensures)))
+    (wrote (replyOf (readLine (line n))) (start n .pre) (rw (asked n) at (r .reply2 .ensures .1)) (serial-fits k) (c .counted3 .ensures))
 
 read-line-requires : tie.Need-read-line-requires
 read-line-requires c κs = search needs
