@@ -56,18 +56,17 @@ fn next(state: State, line: &[u8], out: &mut [u8]) -> Answered
     requires { ⌜ answer-room ≤ length (now out) ⌝ }
     ensures { λ r. ⌜ Wrote (machine .next state (now (line .entry))) (now (out .entry)) (now (out .exit)) r ⌝ }
 {
-    let largest = state.largest;
+    let mut largest = state.largest;
     let asked = text::read_line(line);
-    let Number::Is(serial) = asked.serial() else {
-        let malformed = text::reply(asked, out);
-        return counted(largest, malformed);
-    };
-    if serial <= largest {
-        let not_above = text::refuse(serial, 7, out);
-        return counted(largest, not_above);
+    if let Number::Is(serial) = asked.serial() {
+        if serial <= largest {
+            let not_above = text::refuse(serial, 7, out);
+            return counted(largest, not_above);
+        }
+        largest = serial;
     }
     let own = text::reply(asked, out);
-    counted(serial, own)
+    counted(largest, own)
 }
 
 // The place where a line begins.

@@ -1,6 +1,7 @@
 -- `stream::next` meets its contract: 5, then 7, then the line's own answer.
 use mathlib.Core.Path.{_≡_, refl, sym, ap, _∙_}
 use mathlib.Core.Bool.{true, false}
+use mathlib.Core.Logic.{_⊎_, ⊎-elim}
 use mathlib.Core.List.{List}
 use Prim.Native.Nat.{ℕ, _≤_}
 use lib.IntN.{ℤ, pos}
@@ -41,12 +42,12 @@ module _ (s : State) (l : List ℕ) where
 abbrev Called : Reply → List ℕ → List ℕ → ℕ → Type 0
 Called a b b′ w = (w ≡ countFor a b) × (b′ ≡ outFor a b)
 
-wrote : (a : Reply) {largest : ℤ} {b b′ : List ℕ} {w : ℕ} {r : Answered} → answer-room ≤ length b → Called a b b′ w → SFits w64 largest →
-    r ≡ record { state = record { largest = toZ w64 (ofZ w64 largest) }; written = w } →
+wrote : (a : Reply) {largest : ℤ} {x : ℕ} {b b′ : List ℕ} {w : ℕ} {r : Answered} → answer-room ≤ length b → Called a b b′ w →
+    SFits w64 largest → x ≡ ofZ w64 largest → r ≡ record { state = record { largest = toZ w64 x }; written = w } →
     Wrote (record { bytes = a .bytes; state = record { largest = largest } }) b b′ r
-wrote a {b = b} room h f e =
+wrote a {b = b} room h f n e =
     let told = rw (le-ltb (length b) answer-room room) at h in
-    rw e (record { bytes = record { bytes = told .1; count = told .0 }; state = rw (back f) })
+    rw (e, n) (record { bytes = record { bytes = told .1; count = told .0 }; state = rw (back f) })
 
 seven : {serial : ℤ} (b : List ℕ) {b′ : List ℕ} {w : ℕ} → SFits w64 serial →
     Called (refusedReply (toZ w64 (ofZ w64 serial)) (pos 7)) b b′ w → Called (refusedReply serial (pos 7)) b b′ w
@@ -72,14 +73,6 @@ module _ (n : tie.After-serial) where
   fits : SFits w64 (state .largest)
   fits = search needs
 
-returns : tie.Need-returns
-returns c =
-    let r = c .before .before .before in
-    let t = r .before .before in
-    let n = t .before .before in
-    rw (malformed (state n) (line n) (numbered n ∙ t .enum-told .given .1))
-    (wrote (replyOf (readLine (line n))) (start n .pre) (rw (asked n) at (r .reply .ensures .1)) (fits n) (c .counted .ensures))
-
 -- ---- once its serial is known
 module _ (k : tie.After-known-told) where
   abbrev read : tie.After-serial
@@ -94,26 +87,35 @@ module _ (k : tie.After-known-told) where
   is-serial : serialOf (readLine (line read)) ≡ Is serial
   is-serial = numbered read ∙ k .before .serial2 .given .1
 
-returns-2 : tie.Need-returns-2
-returns-2 c =
+returns : tie.Need-returns
+returns c =
     let r = c .before .before .before in
     let t = r .before .before in
     let k = t .before in
     let n = read k in
     let low : leZ (serial k) (state n .largest) ≡ true = rw (back (serial-fits k), back (fits n)) at (t .if1 .taken) in
     rw (not-above (state n) (line n) (is-serial k) low)
-    (wrote (refusedReply (serial k) (pos 7)) (start n .pre) (seven (start n .args .out .now) (serial-fits k) (r .refuse .ensures .1)) (fits n)
-    (c .counted2 .ensures))
+    (wrote (refusedReply (serial k) (pos 7)) (start n .pre) (seven (start n .args .out .now) (serial-fits k) (r .refuse .ensures .1)) (fits n) refl
+    (c .counted .ensures))
 
-returns-3 : tie.Need-returns-3
-returns-3 c =
+by-way {ℓ ℓ′} : {A : Type ℓ} {B : Type ℓ′} {C : Type 0} → A ⊎ B → (A → C) → (B → C) → C
+by-way w f g = ⊎-elim f g w
+
+returns-2 : tie.Need-returns-2
+returns-2 c =
     let r = c .before .before .before in
-    let t = r .before .before in
-    let k = t .before in
-    let n = read k in
-    let high : leZ (serial k) (state n .largest) ≡ false = rw (back (serial-fits k), back (fits n)) at (t .if1 .left) in
+    let j = r .before .before in
+    let n = j .before in
+    let told : Called (replyOf (readLine (line n))) (start n .args .out .now) (r .reply .last .1 .0) (r .reply .result .written)
+    = rw (asked n) at (r .reply .ensures .1) in
+    by-way (j .match .came)
+    (λ w. let k : tie.After-known-told
+    = record { before = record { before = record { before = n; match = w .0 }; serial2 = w .1 }; known-told = w .2 } in
+    let high : leZ (serial k) (state n .largest) ≡ false = rw (back (serial-fits k), back (fits n)) at (w .3 .left) in
     rw (above (state n) (line n) (is-serial k) high)
-    (wrote (replyOf (readLine (line n))) (start n .pre) (rw (asked n) at (r .reply2 .ensures .1)) (serial-fits k) (c .counted3 .ensures))
+    (wrote (replyOf (readLine (line n))) (start n .pre) told (serial-fits k) (w .4) (c .counted2 .ensures)))
+    (λ w. rw (malformed (state n) (line n) (numbered n ∙ w .1 .given .1))
+    (wrote (replyOf (readLine (line n))) (start n .pre) told (fits n) (w .2) (c .counted2 .ensures)))
 
 read-line-requires : tie.Need-read-line-requires
 read-line-requires c κs = search needs
@@ -124,11 +126,8 @@ serial-requires c κs = search needs
 enum-known-serial : tie.Need-enum-known-serial
 enum-known-serial c = search needs
 
-enum-told : tie.Need-enum-told
-enum-told c = search needs
-
-reply-requires : tie.Need-reply-requires
-reply-requires c κs = search needs
+refuse-requires : tie.Need-refuse-requires
+refuse-requires c κs = search needs
 
 counted-requires : tie.Need-counted-requires
 counted-requires c κs = search needs
@@ -136,23 +135,17 @@ counted-requires c κs = search needs
 same-length : tie.Need-same-length
 same-length c = search needs
 
-refuse-requires : tie.Need-refuse-requires
-refuse-requires c κs = search needs
+enum-told : tie.Need-enum-told
+enum-told c = search needs
+
+reply-requires : tie.Need-reply-requires
+reply-requires c κs = search needs
 
 counted-requires-2 : tie.Need-counted-requires-2
 counted-requires-2 c κs = search needs
 
 same-length-2 : tie.Need-same-length-2
 same-length-2 c = search needs
-
-reply-requires-2 : tie.Need-reply-requires-2
-reply-requires-2 c κs = search needs
-
-counted-requires-3 : tie.Need-counted-requires-3
-counted-requires-3 c κs = search needs
-
-same-length-3 : tie.Need-same-length-3
-same-length-3 c = search needs
 
 pub next-spec : {M : Type 1} → statement M
 next-spec =
@@ -161,16 +154,12 @@ next-spec =
     read-line-requires
     serial-requires
     enum-known-serial
-    enum-told
-    reply-requires
+    refuse-requires
     counted-requires
     same-length
     returns
-    refuse-requires
+    enum-told
+    reply-requires
     counted-requires-2
     same-length-2
-    returns-2
-    reply-requires-2
-    counted-requires-3
-    same-length-3
-    returns-3)
+    returns-2)
