@@ -14,10 +14,10 @@ use borrow.Author.Tests.{le-ltb}
 use Rattle.word.proofs.Fits.{back, sfits-mag}
 use Rattle.scan.specs.declared.Number.the-variants.{Is, Not}
 use Rattle.text.specs.Line.{readLine, serialOf}
-use Rattle.text.specs.Answer.{Reply, refusedReply, replyOf, answer-room, countFor, outFor}
+use Rattle.text.specs.Answer.{Reply, refusedReply, replyOf, answer-room}
+use Rattle.text.proofs.Call.{Called}
 use Rattle.stream.specs.declared.State.{State}
 use Rattle.stream.specs.declared.Answered.{Answered}
-use Rattle.stream.specs.Machine.{Outcome}
 use Rattle.stream.specs.Sheet.{replyAfter, answerLine}
 use Rattle.stream.specs.Code.{Wrote}
 use Rattle.stream.proofs.next.Statement.{statement}
@@ -38,19 +38,16 @@ module _ (s : State) (l : List ℕ) where
     unfolding answerLine replyAfter
     above h = rw (e, h)
 
--- what a call of a line leaves, and with room for it the whole; serials as the machine holds them
-abbrev Called : Reply → List ℕ → List ℕ → ℕ → Type 0
-Called a b b′ w = (w ≡ countFor a b) × (b′ ≡ outFor a b)
-
-wrote : (a : Reply) {largest : ℤ} {x : ℕ} {b b′ : List ℕ} {w : ℕ} {r : Answered} → answer-room ≤ length b → Called a b b′ w →
+-- what a call of a line wrote, with room for it; serials as the code holds them
+wrote : (a : Reply) {largest refusal : ℤ} {x w : ℕ} {b b′ : List ℕ} {r : Answered} → answer-room ≤ length b → Called a b b′ refusal w →
     SFits w64 largest → x ≡ ofZ w64 largest → r ≡ record { state = record { largest = toZ w64 x }; written = w } →
     Wrote (record { bytes = a .bytes; state = record { largest = largest } }) b b′ r
 wrote a {b = b} room h f n e =
-    let told = rw (le-ltb (length b) answer-room room) at h in
+    let told = rw (le-ltb (length b) answer-room room) at (h .1) in
     rw (e, n) (record { bytes = record { bytes = told .1; count = told .0 }; state = rw (back f) })
 
-seven : {serial : ℤ} (b : List ℕ) {b′ : List ℕ} {w : ℕ} → SFits w64 serial →
-    Called (refusedReply (toZ w64 (ofZ w64 serial)) (pos 7)) b b′ w → Called (refusedReply serial (pos 7)) b b′ w
+seven : {serial refusal : ℤ} (b : List ℕ) {b′ : List ℕ} {w : ℕ} → SFits w64 serial →
+    Called (refusedReply (toZ w64 (ofZ w64 serial)) (pos 7)) b b′ refusal w → Called (refusedReply serial (pos 7)) b b′ refusal w
 seven b f h = rw (back f) at h
 
 -- ---- what the code has read
@@ -95,27 +92,35 @@ returns c =
     let n = read k in
     let low : leZ (serial k) (state n .largest) ≡ true = rw (back (serial-fits k), back (fits n)) at (t .if1 .taken) in
     rw (not-above (state n) (line n) (is-serial k) low)
-    (wrote (refusedReply (serial k) (pos 7)) (start n .pre) (seven (start n .args .out .now) (serial-fits k) (r .refuse .ensures .1)) (fits n) refl
+    (wrote (refusedReply (serial k) (pos 7)) (start n .pre) (seven (start n .args .out .now) (serial-fits k) (r .refuse .ensures)) (fits n) refl
     (c .counted .ensures))
+
+-- ---- its own answer, where it has no serial or one above the largest
+module _ (c : tie.After-counted2) where
+  abbrev joined : tie.At-match-came
+  joined = c .before .before .before .before .before
+
+  abbrev begun : tie.After-serial
+  begun = joined .before
+
+  own : {largest : ℤ} → SFits w64 largest → joined .match .largest ≡ ofZ w64 largest →
+      Wrote (record { bytes = replyOf (readLine (line begun)) .bytes; state = record { largest = largest } }) (start begun .args .out .now)
+      (c .before .before .before .reply .last .1 .0) (c .counted2 .result)
+  own f e =
+      wrote (replyOf (readLine (line begun))) (start begun .pre) (rw (asked begun) at (c .before .before .before .reply .ensures)) f e
+      (c .counted2 .ensures)
 
 by-way {ℓ ℓ′} : {A : Type ℓ} {B : Type ℓ′} {C : Type 0} → A ⊎ B → (A → C) → (B → C) → C
 by-way w f g = ⊎-elim f g w
 
 returns-2 : tie.Need-returns-2
 returns-2 c =
-    let r = c .before .before .before in
-    let j = r .before .before in
-    let n = j .before in
-    let told : Called (replyOf (readLine (line n))) (start n .args .out .now) (r .reply .last .1 .0) (r .reply .result .written)
-    = rw (asked n) at (r .reply .ensures .1) in
-    by-way (j .match .came)
-    (λ w. let k : tie.After-known-told
-    = record { before = record { before = record { before = n; match = w .0 }; serial2 = w .1 }; known-told = w .2 } in
+    let n = begun c in
+    by-way (joined c .match .came)
+    (λ w. let k : tie.After-known-told = record { before = record { before = record { before = n; match = w .0 }; serial2 = w .1 }; known-told = w .2 } in
     let high : leZ (serial k) (state n .largest) ≡ false = rw (back (serial-fits k), back (fits n)) at (w .3 .left) in
-    rw (above (state n) (line n) (is-serial k) high)
-    (wrote (replyOf (readLine (line n))) (start n .pre) told (serial-fits k) (w .4) (c .counted2 .ensures)))
-    (λ w. rw (malformed (state n) (line n) (numbered n ∙ w .1 .given .1))
-    (wrote (replyOf (readLine (line n))) (start n .pre) told (fits n) (w .2) (c .counted2 .ensures)))
+    rw (above (state n) (line n) (is-serial k) high) (own c (serial-fits k) (w .4)))
+    (λ w. rw (malformed (state n) (line n) (numbered n ∙ w .1 .given .1)) (own c (fits n) (w .2)))
 
 read-line-requires : tie.Need-read-line-requires
 read-line-requires c κs = search needs
