@@ -82,6 +82,8 @@ int main(void)
     size_t length = bkm_line((const uint8_t *)line, strlen(line), text, sizeof text);
     check("a line has its answer", length == strlen(answer) && memcmp(text, answer, length) == 0);
     check("and the bytes behind it stay", all(text + length, sizeof text - length, 0xa5));
+    check("and the same one again: numbers rise on a sheet, and the call knows of none",
+          bkm_line((const uint8_t *)line, strlen(line), text, sizeof text) == length && memcmp(text, answer, length) == 0);
     check("an empty line is malformed", bkm_line((const uint8_t *)line, 0, text, sizeof text) == 8 && memcmp(text, "0\tREF\t5\n", 8) == 0);
     check("127 bytes are too few for a line", bkm_line((const uint8_t *)line, strlen(line), text, 127) == 0);
     check("the entry of n = 1, d = -1", bkm_step_entry(1, -1, 0, 0) == -INT64_C(195103586505167) && bkm_step_entry(1, -1, 0, 1) == 0);

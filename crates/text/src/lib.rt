@@ -211,7 +211,7 @@ pub fn reply(line: Line, out: &mut [u8]) -> LineAnswer
         };
     }
     match line {
-        Line::Malformed => refused(0, 5, out),
+        Line::Malformed => refuse(0, 5, out),
         Line::Exp {
             serial,
             n,

@@ -9,7 +9,7 @@ use Rattle.word.proofs.Fits.{back, sfits-mag}
 use Rattle.point.specs.declared.Point.{Point}
 use Rattle.exponential.specs.Answer.{expAnswer}
 use Rattle.logarithm.specs.Answer.{logAnswer}
-use Rattle.text.specs.declared.Line.the-variants.{Exp, Log, Malformed}
+use Rattle.text.specs.declared.Line.the-variants.{Exp, Log}
 use Rattle.text.specs.Answer.{replyOf}
 use Rattle.text.proofs.Call.{short-buffer, line-called}
 use Rattle.text.proofs.reply.Statement.{statement}
@@ -68,7 +68,7 @@ unfolding replyOf
 returns-2 c =
     let p = c .before .before in
     let t = p .before .before in
-    line-called Malformed (t .enum-told .given .1) tt (t .before .before .if1 .left) (p .refused .ensures)
+    rw (t .enum-told .given .1) (p .refuse .ensures)
 
 returns-3 : tie.Need-returns-3
 unfolding replyOf
@@ -93,8 +93,8 @@ returns-4 c =
 enum-told : tie.Need-enum-told
 enum-told c = search needs
 
-refused-requires : tie.Need-refused-requires
-refused-requires c κs = search needs
+refuse-requires : tie.Need-refuse-requires
+refuse-requires c κs = search needs
 
 enum-known-line : tie.Need-enum-known-line
 enum-known-line c = search needs
@@ -129,7 +129,7 @@ reply-spec =
     (tie.spec
     returns
     enum-told
-    refused-requires
+    refuse-requires
     enum-known-line
     exp-requires
     put-answer-requires
