@@ -125,33 +125,34 @@ unfoldable pub answersOf : List Entry → List ℕ
 answersOf [] = []
 answersOf (e ∷ es) = e .answer .bytes ++ answersOf es
 
-pub entries-answer : (ls : List (List ℕ)) (s : State) → answers machine s ls ≡ answersOf (entries s ls)
+entries-answer : (ls : List (List ℕ)) (s : State) → answers machine s ls ≡ answersOf (entries s ls)
 unfolding answers answerLine entries answersOf
 entries-answer [] s = refl
 entries-answer (l ∷ ls) s = ap (λ (b : List ℕ). answerLine s l .bytes ++ b) (entries-answer ls (answerLine s l .state))
 
-abbrev is : ℕ → ℤ → Bool
+-- the serials of those answered neither 5 nor 7
+abbrev pub is : ℕ → ℤ → Bool
 is k (pos n) = eqb k n
 is k (negsuc n) = false
 
+abbrev pub fiveOrSeven : Reply → Bool
+fiveOrSeven a = is 5 (a .refusal) || is 7 (a .refusal)
+
 unfoldable pub passing : List Entry → List ℤ
 passing [] = []
-passing (e ∷ es) = cond (is 5 (e .answer .refusal) || is 7 (e .answer .refusal)) (passing es) (withSerial (serialOf (e .asked)) (passing es))
-
-abbrev turnedAway : Reply → Bool
-turnedAway a = is 5 (a .refusal) || is 7 (a .refusal)
+passing (e ∷ es) = cond (fiveOrSeven (e .answer)) (passing es) (withSerial (serialOf (e .asked)) (passing es))
 
 numbered-rises : (largest serial : ℤ) (own : Reply) (zs : List ℤ) → Rises (largestWith (num.Is serial) largest) zs →
-    Rises largest (cond (turnedAway (ifRisen (num.Is serial) largest own)) zs (serial ∷ zs))
+    Rises largest (cond (fiveOrSeven (ifRisen (num.Is serial) largest own)) zs (serial ∷ zs))
 numbered-rises largest serial own zs =
-    tested (λ t. Rises (cond t largest serial) zs → Rises largest (cond (turnedAway (cond t (refusedReply serial (pos 7)) own)) zs (serial ∷ zs)))
+    tested (λ t. Rises (cond t largest serial) zs → Rises largest (cond (fiveOrSeven (cond t (refusedReply serial (pos 7)) own)) zs (serial ∷ zs)))
     serial largest
     (λ k r. r)
     (λ k r. let h : largest ⋖ serial = lt-of-suc-le k in
-    either (turnedAway own) (λ e. rw e (rises-below zs h r)) (λ e. rw e (h, r)))
+    either (fiveOrSeven own) (λ e. rw e (rises-below zs h r)) (λ e. rw e (h, r)))
 
 line-rises : (largest : ℤ) (l : Line) (zs : List ℤ) → Rises (largestWith (serialOf l) largest) zs →
-    Rises largest (cond (turnedAway (replyAfter largest l)) zs (withSerial (serialOf l) zs))
+    Rises largest (cond (fiveOrSeven (replyAfter largest l)) zs (withSerial (serialOf l) zs))
 unfolding replyAfter replyOf
 line-rises largest line.Malformed zs h = h
 line-rises largest (line.Exp serial n exponent start) zs h = numbered-rises largest serial _ zs h
@@ -162,8 +163,9 @@ unfolding passing entries answerLine
 passing-rises [] s = tt
 passing-rises (l ∷ ls) s = line-rises (s .largest) (readLine l) (passing (entries (answerLine s l .state) ls)) (passing-rises ls (answerLine s l .state))
 
-pub numbers-rise : (s : List ℕ) → Rises (pos 0) (passing (entries initial (lines s)))
-numbers-rise s = passing-rises (lines s) initial
+pub numbers-rise : (s : List ℕ) → let es = entries initial (lines s) in (sheet s ≡ heading ++ answersOf es) × Rises (pos 0) (passing es)
+unfolding sheet
+numbers-rise s = (ap (λ (b : List ℕ). heading ++ b) (entries-answer (lines s) initial), passing-rises (lines s) initial)
 
 -- ---- AS BEFORE: a sheet whose serials rise is answered as 01 has it, where "the program doesn't look" at the lines before
 abbrev pub looksNot : Machine (Unit {0})
