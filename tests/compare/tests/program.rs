@@ -62,7 +62,7 @@ fn long_answers_to_short_lines() {
 fn numbers_that_do_not_rise() {
     for (sheet, answer) in not_rising() {
         assert_eq!(answers(&[&sheet]), answer, "{:?}", String::from_utf8_lossy(&sheet));
-        // The last line counts without its newline too, and the answer is the same in any two pieces.
+        // Without its newline the last line counts too; any two pieces have the same answer.
         for at in 0..sheet.len() {
             let (first, second) = sheet.split_at(at);
             assert_eq!(answers(&[first, second.strip_suffix(b"\n").unwrap()]), answer, "at {at}");
@@ -84,6 +84,7 @@ fn alone(line: &[u8]) -> Vec<u8> {
 fn answered_numbers_rise() {
     let sheet = sheet(&mut Random::new(15), 50_000, WIDTH_48);
     let seen = answers(&[&sheet]);
+    assert_eq!(lines(&seen).len(), 1 + lines(&sheet).len());
     let (mut largest, mut refused, mut rising, mut wanted) = (0, 0, vec![], b"BKM\t48\n".to_vec());
     for (line, answer) in lines(&sheet).into_iter().zip(&lines(&seen)[1..]) {
         let text = std::str::from_utf8(answer).unwrap();

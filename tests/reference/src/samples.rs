@@ -206,7 +206,7 @@ pub fn sheet(random: &mut Random, lines: usize, width: Width) -> Vec<u8> {
             2 => largest + word(random.between(2, 40)),
             _ => largest + 1,
         };
-        // A damage that makes the number far larger is drawn again: all behind it would be behind.
+        // A damage that makes the number far larger is drawn again: it would refuse all behind it.
         let (line, read) = loop {
             let line = numbered_line(random, serial, width);
             let read = parse(&line).map_or(0, |line| line.serial);
