@@ -68,9 +68,9 @@ int64_t bkm_log(int64_t n, int64_t x, int64_t y, uint8_t *out, size_t out_len);
  * it where it is the first: its bytes, a newline at the end, from the front of out.
  * Returns how many there are, at most 128, or 0 where out_len is under 128 and nothing is
  * written. Bytes past the answer keep their values. A refused line is answered with its
- * number in the text: 5 for one that is malformed, or one of the numbers above. 7, a
- * kernel number that is not above all before it on its sheet, is not among them, since
- * the call knows of no sheet.
+ * number in the text: 5 for one that is malformed, else 1 to 4 as above. 7, a kernel
+ * number that is not above all before it on its sheet, is not among them, since the call
+ * knows of no sheet.
  */
 size_t bkm_line(const uint8_t *line, size_t line_len, uint8_t *out, size_t out_len);
 
