@@ -1,5 +1,5 @@
-/* EXP and LOG of points in units of 1/2^48, and the lines of a sheet: the C face of the
- * library.
+/* EXP and LOG of points in units of 1/2^48, the lines of a sheet, and two sheets merged into
+ * one: the C face of the library.
  *
  * Link target/staticlib/libcontroller.a, which `rt staticlib controller` writes.
  *
@@ -73,6 +73,24 @@ int64_t bkm_log(int64_t n, int64_t x, int64_t y, uint8_t *out, size_t out_len);
  * knows of no sheet.
  */
 size_t bkm_line(const uint8_t *line, size_t line_len, uint8_t *out, size_t out_len);
+
+/* Two sheets merged into one whose kernel numbers rise, each line copied unchanged, from the
+ * front of out; a last line without its newline gets one. Where both sheets have the same
+ * line under one number, it is written once. Returns how many bytes were written, or minus
+ * the refusal number, and then nothing is written. Bytes past those written keep their
+ * values. Refusals:
+ *
+ *     6   out_len is under a_len + b_len + 2; no line is looked at
+ *     5   a line is malformed
+ *     7   a number is not above the one before it in the same sheet
+ *     8   one number has two differing lines
+ *
+ * The lines are met in the order in which they are written, a line of a beside one of b; the
+ * pair that is met first decides which refusal is given, and there 5 comes before 7 and 7
+ * before 8. What one sheet has left when the other is used up is checked like the rest. out
+ * may not overlap a or b.
+ */
+int64_t bkm_merge(const uint8_t *a, size_t a_len, const uint8_t *b, size_t b_len, uint8_t *out, size_t out_len);
 
 /* The table that the steps use: in units, the logarithm of 1 + (dx + i*dy)/2^n for n from
  * 1 to 40 and dx, dy from -1 to 1, its real part for part 0 and its imaginary part for any

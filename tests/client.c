@@ -86,6 +86,19 @@ int main(void)
           bkm_line((const uint8_t *)line, strlen(line), text, sizeof text) == length && memcmp(text, answer, length) == 0);
     check("an empty line is malformed", bkm_line((const uint8_t *)line, 0, text, sizeof text) == 8 && memcmp(text, "0\tREF\t5\n", 8) == 0);
     check("127 bytes are too few for a line", bkm_line((const uint8_t *)line, strlen(line), text, 127) == 0);
+
+    const char *first = "1\tLOG\t3\t1\t0\n3\tLOG\t3\t1\t0", *second = "2\tLOG\t3\t0\t1\n3\tLOG\t3\t1\t0\n";
+    const char *both = "1\tLOG\t3\t1\t0\n2\tLOG\t3\t0\t1\n3\tLOG\t3\t1\t0\n";
+    const size_t n1 = strlen(first), n2 = strlen(second), n = strlen(both);
+    const uint8_t *a = (const uint8_t *)first, *b = (const uint8_t *)second;
+    memset(text, 0xa5, sizeof text);
+    check("two sheets are merged, equal lines once", bkm_merge(a, n1, b, n2, text, n1 + n2 + 2) == (int64_t)n && memcmp(text, both, n) == 0);
+    check("and the bytes behind them stay", all(text + n, sizeof text - n, 0xa5));
+    memset(text, 0x5a, sizeof text);
+    check("room for one newline is too little", bkm_merge(a, n1, b, n2, text, n1 + n2 + 1) == -6);
+    check("two differing lines under one number", bkm_merge(a, n1, (const uint8_t *)"3\tLOG\t4\t1\t0", 11, text, sizeof text) == -8);
+    check("a sheet behind itself, or cut", bkm_merge((const uint8_t *)both + 12, n - 12, b, n2 - 2, text, sizeof text) == -5);
+    check("and no refusal writes", all(text, sizeof text, 0x5a));
     check("the entry of n = 1, d = -1", bkm_step_entry(1, -1, 0, 0) == -INT64_C(195103586505167) && bkm_step_entry(1, -1, 0, 1) == 0);
 
     printf("%d passed, %d failed\n", passed, failed);

@@ -11,6 +11,7 @@ pub enum Refusal {
     Line = 5,
     Buffer = 6,
     Serial = 7,
+    Clash = 8,
 }
 
 #[derive(Clone, Copy, PartialEq, Eq, Debug)]

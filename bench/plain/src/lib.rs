@@ -1,8 +1,9 @@
-//! EXP, LOG and sheets of paper 01 as one would write them in Rust and in C with nothing proved:
+//! EXP, LOG, sheets and their merge as one would write them in Rust and in C with nothing proved:
 //! the measure for the product. 64-bit arithmetic, static tables, the same answers bit for bit.
 
 pub mod c;
 pub mod engines;
+pub mod merge;
 pub mod sheet;
 
 mod tables {

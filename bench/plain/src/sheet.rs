@@ -3,7 +3,7 @@
 use crate::engines::{exp, log, Figures, Refusal};
 use std::io::{self, BufRead, Write};
 
-enum Call {
+pub(crate) enum Call {
     Exp([i64; 5]),
     Log([i64; 3]),
 }
@@ -31,7 +31,7 @@ fn numbers<'a, const COUNT: usize>(
 }
 
 /// The serial and the call of a well-formed line.
-fn parse(line: &[u8]) -> Option<(i64, Call)> {
+pub(crate) fn parse(line: &[u8]) -> Option<(i64, Call)> {
     let mut fields = line.split(|&byte| byte == b'\t');
     let serial = number(fields.next()?).filter(|k| (1..=9_999_999).contains(k))?;
     let call = match fields.next()? {

@@ -1,10 +1,11 @@
 //! The plain versions against the second implementation of the tests.
 
-use plain::{c, engines, sheet};
+use plain::{c, engines, merge, sheet};
 use reference::answer::write_record;
-use reference::damage::{every_damage, longest_line};
+use reference::damage::{every_damage, longest_line, merges};
 use reference::samples::{self, exp_input, line, log_input, Random};
 use reference::width::WIDTH_48 as W;
+use reference::merge::merge_into;
 use reference::{exponential, logarithm};
 use std::io::Write;
 use std::process::{Command, Stdio};
@@ -87,6 +88,21 @@ fn sheets() {
         assert!(ours == wanted);
         if let Some(c) = c::VERSION {
             assert!(answered_by_c(c.program, &given) == wanted);
+        }
+    }
+}
+
+#[test]
+fn merged() {
+    let mut random = Random::new(15);
+    let drawn = (0..SAMPLES / 100).map(|i| samples::two_sheets(&mut random, i % 90, 90, W));
+    let small = merges().into_iter().map(|(first, second, _)| [first, second]);
+    for [first, second] in drawn.chain(small) {
+        for room in [0, 1, 2, 3, 100].map(|extra| first.len() + second.len() + extra) {
+            let (mut ours, mut theirs) = (vec![0xa5; room], vec![0xa5; room]);
+            let count = merge::merge(&first, &second, &mut ours);
+            assert_eq!(count, merge_into(&first, &second, &mut theirs));
+            assert!(ours == theirs);
         }
     }
 }

@@ -1,10 +1,11 @@
 //! The race: prints the tables of `bench/run` as markdown. `race quick` prints the same from a
-//! few rounds, without instructions. `race calls EXP|LOG PLACE COUNT` runs COUNT small batches of
+//! few rounds, without instructions, `race merges` the last of them alone. `race calls EXP|LOG PLACE COUNT` runs COUNT small batches of
 //! one contender and nothing else, for counting instructions.
 
 mod callgrind;
 mod contenders;
 mod effort;
+mod merges;
 mod operation;
 mod sheets;
 mod table;
@@ -30,7 +31,8 @@ fn main() {
         ["calls", "LOG", place, count] => calls::<Log>(place, count),
         [] => race_all(&FULL),
         ["quick"] => race_all(&QUICK),
-        _ => panic!("race [quick], or race calls EXP|LOG PLACE COUNT"),
+        ["merges"] => merges::race(&FULL),
+        _ => panic!("race [quick|merges], or race calls EXP|LOG PLACE COUNT"),
     }
 }
 
@@ -53,6 +55,7 @@ fn race_all(effort: &Effort) {
         println!("\nNot installed, so not in the race: {name}.");
     }
     sheets::race(effort);
+    merges::race(effort);
 }
 
 fn inputs<Input: Operation>(contender: &Contender<Input>, count: usize) -> Vec<Input> {

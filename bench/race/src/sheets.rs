@@ -14,19 +14,23 @@ use std::path::{Path, PathBuf};
 use std::process::{self, Command, Stdio};
 use std::time::Instant;
 
-/// Lines as a sender writes them, with N from 20 to 40; one in 50 is refused and one in 50
-/// malformed.
+/// A line as a sender writes it, with N from 20 to 40; one in 50 is refused.
+pub fn line(random: &mut Random, serial: i64) -> Vec<u8> {
+    let n = if random.one_in(50) { 41 } else { random.between(20, 40) as i64 };
+    let call = if random.one_in(2) {
+        Call::Exp(Exp::everyday(random, n))
+    } else {
+        Call::Log(Log::everyday(random, n))
+    };
+    write_line(Line { serial, call })
+}
+
+/// So many lines, of which one in 50 is malformed.
 fn sheet(lines: usize) -> Vec<u8> {
     let mut random = Random::new(41);
     let mut text = Vec::new();
     for serial in 1..=lines as i64 {
-        let n = if random.one_in(50) { 41 } else { random.between(20, 40) as i64 };
-        let call = if random.one_in(2) {
-            Call::Exp(Exp::everyday(&mut random, n))
-        } else {
-            Call::Log(Log::everyday(&mut random, n))
-        };
-        text.extend(write_line(Line { serial, call }));
+        text.extend(line(&mut random, serial));
         text.extend(if random.one_in(50) { &b"\t\n"[..] } else { b"\n" });
     }
     text
@@ -38,13 +42,17 @@ fn plain_rust() -> PathBuf {
 }
 
 /// A sheet in a file, removed at the end.
-struct SheetFile(PathBuf);
+pub struct SheetFile(pub PathBuf);
 
 impl SheetFile {
-    fn new(lines: usize) -> SheetFile {
-        let path = env::temp_dir().join(format!("bench-{}-{lines}.sheet", process::id()));
-        fs::write(&path, sheet(lines)).expect("room for the sheet");
+    pub fn new(name: &str, sheet: &[u8]) -> SheetFile {
+        let path = env::temp_dir().join(format!("bench-{}-{name}.sheet", process::id()));
+        fs::write(&path, sheet).expect("room for the sheet");
         SheetFile(path)
+    }
+
+    fn of_lines(lines: usize) -> SheetFile {
+        SheetFile::new(&lines.to_string(), &sheet(lines))
     }
 
     fn open(&self) -> File {
@@ -80,7 +88,7 @@ pub fn race(effort: &Effort) {
     }
     let mut programs = vec![("bkm", product), ("plain Rust", plain_rust())];
     programs.extend(plain::c::VERSION.map(|c| ("plain C", c.program.into())));
-    let sheet = SheetFile::new(effort.lines);
+    let sheet = SheetFile::of_lines(effort.lines);
     let wanted = answers(&programs[0].1, &sheet);
     for (name, program) in &programs[1..] {
         assert!(answers(program, &sheet) == wanted, "{name} answers differently");
@@ -92,7 +100,7 @@ pub fn race(effort: &Effort) {
         }
     }
     let small = [2_000, 12_000];
-    let small_sheets = small.map(|lines| (lines, SheetFile::new(lines)));
+    let small_sheets = small.map(|lines| (lines, SheetFile::of_lines(lines)));
     let rows = programs.iter().enumerate().map(|(place, (name, program))| {
         let ratios = speeds[0].iter().zip(&speeds[place]).map(|(product, this)| product / this);
         let instructions = instructions_per_item(effort, small, 1, |command, lines| {

@@ -29,8 +29,10 @@ module _ (b : List ℕ) (at : ℕ) (xs : List ℕ) where
 pub written : {b : List ℕ} {at : ℕ} {xs b′ : List ℕ} {end : ℕ} → at + length xs ≤ length b → Put b at xs b′ end → Fitted b at xs b′ end
 written {b} {at} {xs} h p = rw (fits-whole b at xs h) (p .after, p .bytes)
 
--- from the front, where there is room
+-- where there is room it is a plain write
+pub fitted-put : {b : List ℕ} {at : ℕ} {xs b′ : List ℕ} {end : ℕ} → at + length xs ≤ length b → Fitted b at xs b′ end → Put b at xs b′ end
+fitted-put {b} {at} {xs} h p = let q = rw (fits-whole b at xs h) at p in record { bytes = q .1; after = q .0 }
+
+-- from the front
 pub fitted-front : {b xs b′ : List ℕ} {end : ℕ} → length xs ≤ length b → Fitted b 0 xs b′ end → Front xs b b′ end
-fitted-front {b} {xs} h p =
-    let q = rw (fits-whole b 0 xs (rw zero-add h)) at p in
-    to-front (record { bytes = q .1; after = q .0 }) h
+fitted-front h p = to-front (fitted-put (rw zero-add h) p) h

@@ -1,19 +1,20 @@
 -- A call: six numbers of eight bytes in front, and the answer's record handed over.
-use mathlib.Core.Path.{_≡_, _∙_}
+use mathlib.Core.Path.{_≡_, refl, ap, _∙_}
 use mathlib.Core.List.{List, _++_}
-use Prim.Native.Nat.{ℕ, _^_, _≤_, _<_}
-use lib.IntN.{ℤ}
+use Prim.Native.Nat.{ℕ, zero, suc, _^_, _≤_, _<_}
+use native.Mathlib.Omega.{arith}
+use lib.IntN.{ℤ, pos, _-ℤ_, natAbs}
 use lib.ListN.{length, drop}
 use lib.Signed.{mag}
 use mir.Syntax.{w64}
 use mir.Val.{toZ, ofZ}
-use Rattle.word.proofs.Fits.{back, sfits-mag}
+use Rattle.word.proofs.Fits.{back, sfits-mag, zero-sub}
 use Rattle.buffer.specs.Words.{encode}
 use Rattle.buffer.proofs.Words.{length-encode}
 use Rattle.buffer.proofs.Fitting.{Fitted, fitted-front}
 use Rattle.answer.specs.declared.Answer.{Answer}
 use Rattle.answer.specs.Record.{recordOf}
-use Rattle.controller.specs.Record.{handed, written}
+use Rattle.controller.specs.Record.{handed, written, countOrRefusal}
 
 -- six numbers fill the first 48 bytes
 pub six-front : (b : List ℕ) (zs : List ℤ) {b′ : List ℕ} {end : ℕ} → length zs ≡ 6 → 48 ≤ length b → Fitted b 0 (encode zs) b′ end →
@@ -27,3 +28,22 @@ pub called : (b : List ℕ) {b′ : List ℕ} {a answer : Answer} {r : ℤ} → 
     (r ≡ handed b (recordOf a)) × (b′ ≡ written b (recordOf a)) → (toZ w64 (ofZ w64 r) ≡ handed b (recordOf answer))
     × (b′ ≡ written b (recordOf answer))
 called b {r = r} e f h = let told = rw e at h in (back (sfits-mag r f) ∙ told .0, told .1)
+
+-- ---- a merge's count, or minus its refusal number
+module _ (r : ℕ) (bytes : List ℕ) where
+  pub count-handed : pos r ≡ pos 0 → pos (length bytes) ≡ countOrRefusal r bytes
+  count-handed = go r
+    where
+      go : (r : ℕ) → pos r ≡ pos 0 → pos (length bytes) ≡ countOrRefusal r bytes
+      go zero e = refl
+      go (suc k) e = absurd (some (ap natAbs e))
+        where
+          some : suc k ≡ 0 → ⊥
+          some e = omega arith
+
+  pub refusal-handed : (pos r ≡ pos 0 → ⊥) → pos 0 -ℤ pos r ≡ countOrRefusal r bytes
+  refusal-handed = go r
+    where
+      go : (r : ℕ) → (pos r ≡ pos 0 → ⊥) → pos 0 -ℤ pos r ≡ countOrRefusal r bytes
+      go zero n = absurd (n refl)
+      go (suc k) n = zero-sub (pos (suc k))

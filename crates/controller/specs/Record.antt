@@ -3,7 +3,7 @@ use mathlib.Core.Bool.{cond}
 use mathlib.Core.List.{List, _++_}
 use Prim.Native.Nat.{ℕ, zero, suc}
 use lib.Dec.{ltb}
-use lib.IntN.{ℤ, pos}
+use lib.IntN.{ℤ, pos, negsuc}
 use lib.ListN.{length, drop}
 use Rattle.algebra.specs.Gauss.{𝔾}
 use Rattle.buffer.specs.Words.{encode}
@@ -16,6 +16,11 @@ handed out numbers = cond (ltb (length out) 48) (pos 6) (refusal-in numbers)
 -- "nothing written; bytes past the 48 keep their values"
 abbrev pub written : List ℕ → List ℤ → List ℕ
 written out numbers = cond (ltb (length out) 48) out (encode numbers ++ drop 48 out)
+
+-- how many bytes a merge wrote, or minus its refusal number
+abbrev pub countOrRefusal : ℕ → List ℕ → ℤ
+countOrRefusal zero bytes = pos (length bytes)
+countOrRefusal (suc r) bytes = negsuc r
 
 -- the real part of a number for 0, the imaginary one for any other
 abbrev pub partOf : ℕ → 𝔾 → ℤ

@@ -1,12 +1,15 @@
-// The calls for C: EXP and LOG on plain numbers, 48 bytes into a lent buffer; a line of a sheet; an entry of the step table. include/bkm.h is
-// the contract in plain words.
+// The calls for C: EXP and LOG on plain numbers, 48 bytes into a lent buffer; a line of a sheet; two sheets merged; an entry of the step table.
+// include/bkm.h is the contract in plain words.
 ghost use mathlib.Core.Path.{_≡_};
+ghost use mathlib.Core.List.{_++_};
+ghost use lib.ListN.{length, drop};
 ghost use Rattle.answer.specs.Record.{recordOf};
 ghost use Rattle.table_numbers.specs.Table.{stepTable};
 ghost use Rattle.exponential.specs.Answer.{expAnswer};
 ghost use Rattle.logarithm.specs.Answer.{logAnswer};
 ghost use Rattle.text.specs.Answer.{reply, countFor, outFor};
-ghost use Rattle.controller.specs.Record.{handed, written, partOf};
+ghost use Rattle.merge.specs.Call.{refusalFor, bytesFor};
+ghost use Rattle.controller.specs.Record.{handed, written, partOf, countOrRefusal};
 use answer::Answer;
 use point::Point;
 
@@ -50,6 +53,20 @@ pub extern "C" fn bkm_line(line: &[u8], out: &mut [u8]) -> usize
 {
     let a = text::answer_line(line, out);
     a.written
+}
+
+// Two sheets merged into a lent buffer: how many bytes were written, or minus the refusal number.
+#[no_mangle]
+pub extern "C" fn bkm_merge<'a>(a: &'a [u8], b: &'a [u8], out: &mut [u8]) -> i64
+    ensures handed { λ r. ⌜ r ≡ countOrRefusal (refusalFor (now (a .entry)) (now (b .entry)) (now (out .entry))) (bytesFor (now (a .entry)) (now (b .entry)) (now (out .entry))) ⌝ }
+    ensures bytes { λ r. ⌜ now (out .exit) ≡ bytesFor (now (a .entry)) (now (b .entry)) (now (out .entry)) ++ drop (length (bytesFor (now (a .entry)) (now (b .entry)) (now (out .entry)))) (now (out .entry)) ⌝ }
+{
+    let m = merge::merge(a, b, out);
+    let refusal = m.refusal;
+    if refusal == 0 {
+        return m.written as i64;
+    }
+    -refusal
 }
 
 // A part of the entry of step n for the digit (dx, dy), out of the array of the step table: 0 is the real part, any other number the imaginary

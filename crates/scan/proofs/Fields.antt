@@ -1,14 +1,14 @@
 -- Bytes parted by a mark: the fields of a line, the lines of a sheet; and bytes compared with a word.
-use mathlib.Core.Path.{_≡_, refl, sym, ap, _∙_}
+use mathlib.Core.Path.{_≡_, refl, sym, ap, subst, _∙_}
 use mathlib.Core.Bool.{Bool, true, false}
 use mathlib.Core.List.{List, [], _∷_, _++_, append-nil, append-assoc}
 use Prim.Native.Nat.{ℕ, suc, _+_, _≤_, _<_}
 use native.Mathlib.Omega.{arith}
 use native.Mathlib.Numerals.{add-one}
-use lib.Dec.{ltb, eqb}
+use lib.Dec.{T, ltb, eqb}
 use lib.ListN.{length, getD, drop, drop-of-length-le}
 use lib.Seq.{slice, drop-cons, slice-cons, slice-empty}
-use borrow.Author.Tests.{lt-ltb, le-ltb, ltb-true, ltb-false, ne-eqb, eq-eqb}
+use borrow.Author.Tests.{lt-ltb, le-ltb, ltb-true, ltb-false, ne-eqb, eq-eqb, eqb-true}
 use Rattle.buffer.proofs.Either.{either}
 use Rattle.scan.specs.Fields.{split, fields, fieldsAt, sameBytes}
 use Rattle.scan.proofs.Find.{Without, Ended, parted}
@@ -56,7 +56,20 @@ split-some m p (c ∷ cs) =
 pub some-field : (l : List ℕ) (at : ℕ) → at ≤ length l → Field (fieldsAt l at)
 some-field l at h = rw (le-ltb (length l) at h) (split-some 9 [] (drop at l))
 
--- ---- bytes compared one by one
+-- ---- bytes compared one by one: the same ones are one list
+pub same-self : (xs : List ℕ) → sameBytes xs xs ≡ true
+unfolding sameBytes
+same-self [] = refl
+same-self (x ∷ xs) = rw (eq-eqb x x refl) (same-self xs)
+
+pub same-list : (xs ys : List ℕ) → sameBytes xs ys ≡ true → xs ≡ ys
+unfolding sameBytes
+same-list [] [] e = refl
+same-list [] (y ∷ ys) e = absurd (subst T (sym e) tt)
+same-list (x ∷ xs) [] e = absurd (subst T (sym e) tt)
+same-list (x ∷ xs) (y ∷ ys) e =
+    either (eqb x y) (λ h. rw (eqb-true x y h, same-list xs ys (rw h at e))) (λ h. absurd (subst T (sym (rw h at e)) tt))
+
 pub same-word : (f : List ℕ) {w v : List ℕ} {b : Bool} → b ≡ sameBytes f w → w ≡ v → sameBytes f v ≡ b
 same-word f e h = ap (sameBytes f) (sym h) ∙ sym e
 

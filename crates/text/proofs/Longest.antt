@@ -1,10 +1,9 @@
 -- No line over 116 bytes has the form: 7 for the serial, 3 for the kind, 20 for each of five numbers, and six tabs.
-use mathlib.Core.Path.{_≡_, refl, sym, ap, subst}
-use mathlib.Core.Bool.{true}
+use mathlib.Core.Path.{_≡_, refl, ap}
 use mathlib.Core.List.{List, [], _∷_, _++_}
 use Prim.Native.Nat.{ℕ, zero, suc, _+_, _*_, _≤_, _<_}
 use native.Mathlib.Omega.{arith}
-use lib.Dec.{T, eqb, lit<}
+use lib.Dec.{eqb, lit<}
 use lib.IntN.{ℤ}
 use lib.ListN.{length, length-append}
 use Rattle.buffer.proofs.Either.{either}
@@ -13,6 +12,7 @@ use Rattle.scan.specs.declared.Number.{Number}
 use Rattle.scan.specs.Decimal.{readNumber}
 use Rattle.scan.specs.Fields.{split, fields, sameBytes}
 use Rattle.scan.specs.Numbers.{Numbers, are, none, inFront, numbers}
+use Rattle.scan.proofs.Fields.{same-list}
 use Rattle.scan.proofs.Read.{number-is, number-length}
 use Rattle.text.specs.declared.Line.{Line}
 use Rattle.text.specs.Line.{longest-line, isSerial, EXP, LOG, formed, expOf, logOf, kindLine, serialLine, lineOf, readLine}
@@ -59,20 +59,12 @@ some : (zs : Numbers) (k : List ℤ → Line) → WellFormed (formed zs k) → S
 some none k g = absurd g
 some (are zs) k g = tt
 
-same-length : (f w : List ℕ) → sameBytes f w ≡ true → length f ≡ length w
-unfolding sameBytes
-same-length [] [] e = refl
-same-length [] (y ∷ ys) e = absurd (subst T (sym e) tt)
-same-length (x ∷ xs) [] e = absurd (subst T (sym e) tt)
-same-length (x ∷ xs) (y ∷ ys) e =
-    either (eqb x y) (λ h. ap suc (same-length xs ys (rw h at e))) (λ h. absurd (subst T (sym (rw h at e)) tt))
-
 kind-total : (serial : ℤ) (fs : List (List ℕ)) → WellFormed (kindLine serial fs) → total fs ≤ 109
 unfolding kindLine total
 kind-total serial [] g = absurd g
 kind-total serial (f ∷ fs) g =
-    either (sameBytes f EXP) (λ e. omega (arith, same-length f EXP e, five (rw e at g)))
-    (λ e. either (sameBytes f LOG) (λ h. omega (arith, same-length f LOG h, three (rw (e, h) at g))) (λ h. absurd (rw (e, h) at g)))
+    either (sameBytes f EXP) (λ e. omega (arith, ap length (same-list f EXP e), five (rw e at g)))
+    (λ e. either (sameBytes f LOG) (λ h. omega (arith, ap length (same-list f LOG h), three (rw (e, h) at g))) (λ h. absurd (rw (e, h) at g)))
   where
     five : WellFormed (formed (numbers 5 fs) (expOf serial)) → total fs ≤ 105
     five g = numbers-total 5 fs (some (numbers 5 fs) (expOf serial) g)

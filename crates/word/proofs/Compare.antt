@@ -43,6 +43,12 @@ le-leZ h = is-true (h .le)
 pub lt-leZ : {x y : ℤ} → y ⋖ x → leZ x y ≡ false
 lt-leZ {x} {y} h = is-false (λ t. clashℤ {a = y} {b = x} h (record { le = t }))
 
+pub lt-ltZ : {x y : ℤ} → x ⋖ y → ltZ x y ≡ true
+lt-ltZ h = is-true (h .lt)
+
+pub le-ltZ : {x y : ℤ} → y ⩽ x → ltZ x y ≡ false
+le-ltZ {x} {y} h = is-false (λ t. clashℤ {a = x} {b = y} (record { lt = t }) h)
+
 pub between-true : {lo hi x : ℤ} → between lo hi x ≡ true → (lo ⩽ x) × (x ⩽ hi)
 unfolding between
 between-true {lo} {hi} {x} e = (

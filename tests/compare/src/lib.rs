@@ -10,6 +10,14 @@ extern "C" {
     fn bkm_exp(n: i64, ex: i64, ey: i64, sx: i64, sy: i64, out: *mut u8, len: usize) -> i64;
     fn bkm_log(n: i64, x: i64, y: i64, out: *mut u8, len: usize) -> i64;
     fn bkm_line(line: *const u8, line_len: usize, out: *mut u8, len: usize) -> usize;
+    fn bkm_merge(
+        a: *const u8,
+        a_len: usize,
+        b: *const u8,
+        b_len: usize,
+        out: *mut u8,
+        len: usize,
+    ) -> i64;
     fn bkm_step_entry(n: usize, dx: i64, dy: i64, part: usize) -> i64;
 }
 
@@ -33,6 +41,13 @@ pub fn log(input: logarithm::Input, out: &mut [u8]) -> i64 {
 pub fn line(line: &[u8], out: &mut [u8]) -> usize {
     // SAFETY: as above, and the line is only read.
     unsafe { bkm_line(line.as_ptr(), line.len(), out.as_mut_ptr(), out.len()) }
+}
+
+#[inline]
+pub fn merge(first: &[u8], second: &[u8], out: &mut [u8]) -> i64 {
+    let (a, b) = (first.as_ptr(), second.as_ptr());
+    // SAFETY: as above, and the sheets are only read.
+    unsafe { bkm_merge(a, first.len(), b, second.len(), out.as_mut_ptr(), out.len()) }
 }
 
 #[inline]

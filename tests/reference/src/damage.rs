@@ -99,6 +99,66 @@ pub fn not_rising() -> Vec<(Vec<u8>, Vec<u8>)> {
     NOT_RISING.iter().map(sheet).collect()
 }
 
+/// Two sheets, their lines parted by a comma, and what they are merged into, or the refusal
+/// number (02, E4). a, b and so on are the numbers 1, 2 and so on with the line GOOD, capitals the
+/// same numbers with another line, and ! is malformed.
+const MERGES: [(&str, &str, Result<&str, i64>); 33] = [
+    ("", "", Ok("")),
+    ("a", "", Ok("a")),
+    ("", "a", Ok("a")),
+    ("a,c,e", "b,d", Ok("a,b,c,d,e")),
+    ("b,d", "a,c,e", Ok("a,b,c,d,e")),
+    // The rest of one sheet follows as a whole.
+    ("a,b", "c,d,e", Ok("a,b,c,d,e")),
+    ("c,d,e", "a,b", Ok("a,b,c,d,e")),
+    // Of equal lines one is written.
+    ("a", "a", Ok("a")),
+    ("a,b,d", "b,c,d", Ok("a,b,c,d")),
+    ("a,B,c", "a,B,c", Ok("a,B,c")),
+    // 5: malformed, in either sheet, at the top, later, and in the rest.
+    ("!", "", Err(5)),
+    ("", "!", Err(5)),
+    ("a,!", "b", Err(5)),
+    ("a", "b,!", Err(5)),
+    ("a", "b,c,!,d", Err(5)),
+    // 7: falling or repeated within a sheet, in the rest too; a line passed by counts.
+    ("b,a", "c", Err(7)),
+    ("c", "b,b", Err(7)),
+    ("a,c,b", "", Err(7)),
+    ("a", "b,c,c", Err(7)),
+    ("b,b", "b", Err(7)),
+    ("b,a", "b,c", Err(7)),
+    // 8: one number with two differing lines.
+    ("a", "A", Err(8)),
+    ("a,b,c", "B", Err(8)),
+    // The pair met first decides.
+    ("a,!", "b,B", Err(5)),
+    ("a,A", "b,!", Err(7)),
+    ("a,!", "A,A", Err(8)),
+    ("c,!", "a,d,b", Err(5)),
+    ("c,b", "a,d,!", Err(7)),
+    // At one pair: 5 on either side, then 7, then 8.
+    ("!", "b,!", Err(5)),
+    ("b,a", "b,!", Err(7)),
+    ("a,b,B", "a,b", Err(7)),
+    ("b,b", "b,B", Err(7)),
+    ("a,a", "c,!", Err(7)),
+];
+
+/// These merges: two sheets, and what the second implementation and the product must give.
+pub fn merges() -> Vec<(Vec<u8>, Vec<u8>, Result<Vec<u8>, i64>)> {
+    let line = |name: &str| match name.as_bytes()[0] {
+        b'!' => "1|LOG|40|1".to_string(),
+        name @ b'a'..=b'z' => format!("{}|EXP|40|0|0|281474976710656|0", name - b'a' + 1),
+        name => format!("{}|LOG|40|0|0", name - b'A' + 1),
+    };
+    let sheet = |names: &str| {
+        let lines = names.split(',').filter(|name| !name.is_empty());
+        tabs(&lines.map(|name| line(name) + "\n").collect::<String>())
+    };
+    MERGES.iter().map(|(one, other, given)| (sheet(one), sheet(other), given.map(sheet))).collect()
+}
+
 /// A text with bars as bytes with tabs.
 pub fn tabs(text: &str) -> Vec<u8> {
     text.replace('|', "\t").into_bytes()

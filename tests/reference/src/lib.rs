@@ -10,6 +10,7 @@ pub mod exponential;
 pub mod figure;
 pub mod fixed;
 pub mod logarithm;
+pub mod merge;
 pub mod outline;
 pub mod point;
 pub mod samples;

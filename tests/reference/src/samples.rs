@@ -221,13 +221,61 @@ pub fn sheet(random: &mut Random, lines: usize, width: Width) -> Vec<u8> {
     sheet
 }
 
-fn numbered_line(random: &mut Random, serial: i64, width: Width) -> Vec<u8> {
+/// Two sheets to merge, dealt from so many lines whose numbers rise, one in four to both; one in
+/// `damage` lines is disturbed.
+pub fn two_sheets(random: &mut Random, lines: usize, damage: i128, width: Width) -> [Vec<u8>; 2] {
+    let mut sheets = [Vec::new(), Vec::new()];
+    let mut serial = 0;
+    for _ in 0..lines {
+        serial += word(random.pick(&[1, 1, 1, 2, 3, 40]));
+        let line = good_line(random, serial, width);
+        let place = random.between(0, 7) as usize;
+        if place < 2 {
+            sheets.iter_mut().for_each(|sheet| sheet.push(line.clone()));
+        } else {
+            sheets[place % 2].push(line);
+        }
+    }
+    sheets.map(|mut lines| {
+        for place in 0..lines.len() {
+            if random.one_in(damage) {
+                disturb(&mut lines, place, random, width);
+            }
+        }
+        let mut sheet = lines.join(&b'\n');
+        if !random.one_in(3) && !sheet.is_empty() {
+            sheet.push(b'\n');
+        }
+        sheet
+    })
+}
+
+/// A line is spoilt, is one from before it, moves up, or is another one with its number or any.
+fn disturb(lines: &mut [Vec<u8>], place: usize, random: &mut Random, width: Width) {
+    let before = random.between(0, place as i128) as usize;
+    let own = parse(&lines[place]).map_or(1, |line| line.serial);
+    match random.between(0, 4) {
+        0 => spoil(&mut lines[place], random),
+        1 => lines[place] = lines[before].clone(),
+        2 => lines.swap(place, before),
+        any => {
+            let serial = if any == 3 { own } else { word(random.between(1, 99)) };
+            lines[place] = good_line(random, serial, width);
+        }
+    }
+}
+
+fn good_line(random: &mut Random, serial: i64, width: Width) -> Vec<u8> {
     let call = if random.one_in(2) {
         Call::Exp(exp_input(random, width))
     } else {
         Call::Log(log_input(random, width))
     };
-    let mut line = write_line(Line { serial, call });
+    write_line(Line { serial, call })
+}
+
+fn numbered_line(random: &mut Random, serial: i64, width: Width) -> Vec<u8> {
+    let mut line = good_line(random, serial, width);
     if random.one_in(4) {
         spoil(&mut line, random);
     }

@@ -1,7 +1,6 @@
 -- `stream::next` meets its contract: 5, then 7, then the line's own answer.
 use mathlib.Core.Path.{_≡_, refl, sym, ap, _∙_}
 use mathlib.Core.Bool.{true, false}
-use mathlib.Core.Logic.{_⊎_, ⊎-elim}
 use mathlib.Core.List.{List}
 use Prim.Native.Nat.{ℕ, _≤_}
 use lib.IntN.{ℤ, pos}
@@ -12,6 +11,7 @@ use mir.Val.{SFits, toZ, ofZ}
 use borrow.Author.Needs.{needs}
 use borrow.Author.Tests.{le-ltb}
 use Rattle.word.proofs.Fits.{back, sfits-mag}
+use Rattle.buffer.proofs.Either.{by-way}
 use Rattle.scan.specs.declared.Number.the-variants.{Is, Not}
 use Rattle.text.specs.Line.{readLine, serialOf}
 use Rattle.text.specs.Answer.{Reply, refusedReply, replyOf, answer-room}
@@ -109,9 +109,6 @@ module _ (c : tie.After-counted2) where
   own f e =
       wrote (replyOf (readLine (line begun))) (start begun .pre) (rw (asked begun) at (c .before .before .before .reply .ensures)) f e
       (c .counted2 .ensures)
-
-by-way {ℓ ℓ′} : {A : Type ℓ} {B : Type ℓ′} {C : Type 0} → A ⊎ B → (A → C) → (B → C) → C
-by-way w f g = ⊎-elim f g w
 
 returns-2 : tie.Need-returns-2
 returns-2 c =
