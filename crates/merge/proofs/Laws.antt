@@ -53,7 +53,7 @@ rises (second {j = j} {n = i} {xs = xs} {ys = ys} e h u r) n p q =
 rises (passed {n = i} {xs = xs} e h s r) n p q = rises r n (low-up n i xs (strictly (p i e h))) q
 
 -- a merge that nothing stops has met rising serials in either sheet
-both-rose : {j k : ℤ} {xs ys : List (List ℕ)} {m : Merge} → Merges j k xs ys m → m .refusal ≡ 0 → Rising j xs × Rising k ys
+pub both-rose : {j k : ℤ} {xs ys : List (List ℕ)} {m : Merge} → Merges j k xs ys m → m .refusal ≡ 0 → Rising j xs × Rising k ys
 both-rose none e = (end, end)
 both-rose (stop n) e = no-stop n e
 both-rose (first s h u r) e = let i = both-rose r e in (more s h (i .0), i .1)

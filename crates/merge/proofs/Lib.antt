@@ -5,6 +5,7 @@
 --   Follows   the rest of the one sheet that has lines left follows as a whole
 --   Again     the merged sheet read again: its lines are those merged, and the program answers none with 7
 --   Turn      a step at a time
+--   Sure      a line that does not stop a merge
 --   Found     the first line, and what is behind it, as the search for a newline finds them
 --   Written   what the writing pass leaves
 --   Call      the call's equations
@@ -16,6 +17,7 @@ pub mod Follows
 pub mod Again
 pub mod Turn
 pub mod Found
+pub mod Sure
 pub mod Written
 pub mod Call
 pub mod Example

@@ -30,8 +30,11 @@ abbrev number : Number → ℤ
 number num.Not = pos 0
 number (num.Is n) = n
 
+pub number-is : {m n : ℤ} → num.Is m ≡ num.Is n → m ≡ n
+number-is e = ap number e
+
 pub one-number : {l : List ℕ} {m n : ℤ} → Numbered l m → Numbered l n → m ≡ n
-one-number e f = ap number (sym (e .is) ∙ f .is)
+one-number e f = number-is (sym (e .is) ∙ f .is)
 
 -- ---- the line in front, behind one with the serial `last`
 pub data InFront (last : ℤ) (l : List ℕ) : Front → Type 0 where

@@ -3,3 +3,4 @@
 --   Call    what a step hands back, and what the call gives and writes
 pub mod Merge
 pub mod Call
+pub mod Code

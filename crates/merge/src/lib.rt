@@ -9,6 +9,7 @@ ghost use Rattle.scan.specs.Fields.{sameBytes};
 ghost use Rattle.buffer.specs.Code.{Put};
 ghost use Rattle.stream.specs.Machine.{lines};
 ghost use Rattle.merge.specs.Merge.{front, bySerial, choice, merge};
+ghost use Rattle.merge.specs.Code.{InFrontIfPassing};
 ghost use Rattle.merge.specs.Call.{firstLine, behind, unread, text, refusalFor, bytesFor};
 use scan::Number;
 
@@ -210,6 +211,20 @@ fn put_all(s: &[u8], out: &mut [u8], at: usize) -> usize
     put_line(s, out, at)
 }
 
+// The line in front of s where it does not stop the merge: of such a line no more than the serial is read.
+fn sure_front(s: &[u8]) -> Front
+    ensures { λ r. ⌜ InFrontIfPassing (now (s .entry)) r ⌝ }
+{
+    if s.len() == 0 {
+        return Front::End;
+    }
+    let tab = scan::find_byte(s, 0, 9);
+    let Number::Is(serial) = scan::read_number(s, 0, tab) else {
+        return Front::Malformed;
+    };
+    Front::Risen(serial)
+}
+
 // What a merge copies that nothing stops; back comes how many bytes it is.
 fn write<'a>(a: &'a [u8], b: &'a [u8], out: &mut [u8]) -> usize
     requires { ⌜ merge (now a) (now b) .refusal ≡ 0 ⌝ }
@@ -218,30 +233,30 @@ fn write<'a>(a: &'a [u8], b: &'a [u8], out: &mut [u8]) -> usize
 {
     let mut p = a;
     let mut q = b;
-    let mut f = read_front(p, 0);
-    let mut g = read_front(q, 0);
+    let mut f = sure_front(p);
+    let mut g = sure_front(q);
     let mut w: usize = 0;
     while 0 < p.len() && 0 < q.len() {
         let c = choose(p, q, f, g);
         match c {
             Choice::Done => return w,
             Choice::Refused(_) => return w,
-            Choice::First(n) => {
+            Choice::First(_) => {
                 w = put_first(p, out, w);
                 let r = step(p, q, c);
                 p = r;
-                f = read_front(p, n);
+                f = sure_front(p);
             }
-            Choice::Passed(n) => {
+            Choice::Passed(_) => {
                 let r = step(p, q, c);
                 p = r;
-                f = read_front(p, n);
+                f = sure_front(p);
             }
-            Choice::Second(n) => {
+            Choice::Second(_) => {
                 w = put_first(q, out, w);
                 let r = step(p, q, c);
                 q = r;
-                g = read_front(q, n);
+                g = sure_front(q);
             }
         }
     }

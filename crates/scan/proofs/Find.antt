@@ -1,5 +1,5 @@
 -- Where a byte stands first: a mark ends a field, a newline a line.
-use mathlib.Core.Path.{_≡_, sym, ap, _∙_}
+use mathlib.Core.Path.{_≡_, refl, sym, ap, _∙_}
 use mathlib.Core.List.{List, [], _∷_, _++_}
 use Prim.Native.Nat.{ℕ, zero, suc, _+_, _-_, _≤_, _<_, min}
 use native.Mathlib.Nat.{zero-min, min-zero, suc-min-suc}
@@ -69,6 +69,16 @@ before-mark m [] h = absurd (none h)
     none h = omega arith
 before-mark m (c ∷ cs) h =
     either (eqb c m) (λ e. rw e (eqb-true c m e)) (λ e. rw e (before-mark m cs (let k = rw e at h in omega arith)))
+
+-- a mark that stands in the front of a list stands first in the list
+pub before-take : (m n : ℕ) (l : List ℕ) → before m (take n l) < length (take n l) → before m l ≡ before m (take n l)
+unfolding before
+before-take m zero l h = absurd (none h)
+  where
+    none : 0 < 0 → ⊥
+    none h = omega arith
+before-take m (suc n) [] h = refl
+before-take m (suc n) (c ∷ cs) h = either (eqb c m) (λ e. rw e) (λ e. rw e (ap suc (before-take m n cs (let k = rw e at h in omega arith))))
 
 -- a part of a list, as the machine takes it
 pub part-slice : (from to : ℕ) (s : List ℕ) → from ≤ to → take (to - from) (drop from s) ≡ slice from to s

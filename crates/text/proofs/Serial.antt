@@ -1,13 +1,20 @@
--- A line that is read has a serial in its range.
-use mathlib.Core.Path.{_≡_}
+-- A line that is read has a serial in its range, and it is the number in front of the first tab.
+use mathlib.Core.Path.{_≡_, sym, subst}
 use mathlib.Core.Bool.{true}
 use mathlib.Core.List.{List, [], _∷_}
-use Prim.Native.Nat.{ℕ}
+use Prim.Native.Nat.{ℕ, suc, _+_, _<_}
+use native.Mathlib.Omega.{arith}
+use lib.Dec.{ltb}
 use lib.IntN.{ℤ}
+use lib.ListN.{length}
+use lib.Seq.{slice}
+use borrow.Author.Tests.{ltb-true, ltb-false}
 use Rattle.buffer.proofs.Either.{either}
 use Rattle.scan.specs.declared.Number.{Number}
 use Rattle.scan.specs.Decimal.{readNumber}
-use Rattle.scan.specs.Fields.{fields, sameBytes}
+use Rattle.scan.specs.Fields.{fields, fieldsAt, sameBytes}
+use Rattle.scan.proofs.Find.{Ended}
+use Rattle.scan.proofs.Fields.{no-field, field-parts}
 use Rattle.scan.specs.Numbers.{Numbers, are, none, numbers}
 use Rattle.text.specs.Line.{isSerial, EXP, LOG, formed, expOf, logOf, kindLine, serialLine, lineOf, readLine, serialOf}
 use Rattle.scan.specs.declared.Number.the-variants as num
@@ -45,3 +52,49 @@ line-serial l = go (fields l)
     go : (fs : List (List ℕ)) → Ranged (serialOf (lineOf fs))
     go [] = tt
     go (f ∷ fs) = number (readNumber f) fs
+
+-- ---- the serial is the first field, and others follow it
+abbrev Some : Number → Type 0
+Some num.Not = ⊥
+Some (num.Is z) = Unit {0}
+
+-- what serialOf reads is z
+record Read (z : ℤ) (r : Number) (fs : List (List ℕ)) : Type 0 where
+  number : r ≡ num.Is z
+  others : 0 < length fs
+
+kind-read : (serial z : ℤ) (fs : List (List ℕ)) → serialOf (kindLine serial fs) ≡ num.Is z → Read z (num.Is serial) fs
+unfolding kindLine
+kind-read serial z [] e = absurd (subst Some (sym e) tt)
+kind-read serial z (f ∷ fs) e =
+    either (sameBytes f EXP) (λ g. exp (numbers 5 fs) (rw g at e))
+    (λ g. either (sameBytes f LOG) (λ h. log (numbers 3 fs) (rw (g, h) at e)) (λ h. absurd (subst Some (sym (rw (g, h) at e)) tt)))
+  where
+    more : 0 < suc (length fs)
+    more = omega arith
+
+    exp : (r : Numbers) → serialOf (formed r (expOf serial)) ≡ num.Is z → Read z (num.Is serial) (f ∷ fs)
+    exp (are zs) e = record { number = e; others = more }
+    exp none e = absurd (subst Some (sym e) tt)
+
+    log : (r : Numbers) → serialOf (formed r (logOf serial)) ≡ num.Is z → Read z (num.Is serial) (f ∷ fs)
+    log (are zs) e = record { number = e; others = more }
+    log none e = absurd (subst Some (sym e) tt)
+
+line-read : (z : ℤ) (r : Number) (fs : List (List ℕ)) → serialOf (serialLine r fs) ≡ num.Is z → Read z r fs
+line-read z num.Not fs e = absurd (subst Some (sym e) tt)
+line-read z (num.Is y) fs e =
+    either (isSerial y) (λ h. kind-read y z fs (rw h at e)) (λ h. absurd (subst Some (sym (rw h at e)) tt))
+
+-- e is the place of the first tab
+pub first-number : (l : List ℕ) (z : ℤ) {e : ℕ} → Ended 9 l 0 e → serialOf (readLine l) ≡ num.Is z → (readNumber (slice 0 e l) ≡ num.Is z) × (e < length l)
+unfolding readLine lineOf
+first-number l z {e} f h =
+    let r = line-read z (readNumber (slice 0 e l)) (fieldsAt l (e + 1)) (rw (field-parts f) at h) in (
+      r .number,
+      either (ltb (length l) (e + 1)) (λ t. absurd (none (rw (no-field l (e + 1) (ltb-true (length l) (e + 1) t)) at (r .others))))
+          (λ t. omega (arith, ltb-false (length l) (e + 1) t)),
+    )
+  where
+    none : 0 < 0 → ⊥
+    none h = omega arith

@@ -6,16 +6,17 @@ use Prim.Native.Nat.{_+_}
 use native.Mathlib.Omega.{arith}
 use borrow.Author.Needs.{needs}
 use borrow.Author.Tests.{ltb-false}
+use lib.IntN.{pos}
 use lib.ListN.{length}
-use Rattle.word.proofs.Fits.{sfits-mag}
 use Rattle.buffer.proofs.Either.{by-way}
 use Rattle.buffer.proofs.Put.{kept}
 use Rattle.stream.specs.Machine.{lines}
 use Rattle.merge.specs.Merge.{merge}
 use Rattle.merge.specs.Call.{text}
-use Rattle.merge.proofs.Turn.{mergeRest, Left, rest, whole, held, behind-first, behind-second, done, refused, first, passed, second, first-less, passed-less, second-less}
+use Rattle.merge.proofs.Turn.{mergeRest, Left, rest, whole, behind-first, behind-second, done, refused, first, passed, second, first-less, passed-less, second-less}
 use Rattle.merge.proofs.Written.{Reached, Writing, start as begun, all-written, nothing-written, line-written, line-fits, first-fits, first-written, rest-fits, rest-written}
 use Rattle.merge.proofs.Follows.{one-left}
+use Rattle.merge.proofs.Sure.{both-pass}
 use Rattle.merge.proofs.write.Statement.{statement}
 use Rattle.merge.proofs.write.Tie as tie
 
@@ -26,17 +27,20 @@ Inv-loop a b out₀ p₀ q₀ f₀ g₀ w₀ out p q f g w =
 abbrev μ-loop : tie.MeasureT-loop
 μ-loop a b out₀ p₀ q₀ f₀ g₀ w₀ out p q f g w = length p + length q
 
-read-front-requires : tie.Need-read-front-requires Inv-loop μ-loop
-read-front-requires c κs = search needs
+sure-front-requires : tie.Need-sure-front-requires Inv-loop μ-loop
+sure-front-requires c κs = search needs
 
-read-front-requires-2 : tie.Need-read-front-requires-2 Inv-loop μ-loop
-read-front-requires-2 c κs = search needs
+sure-front-requires-2 : tie.Need-sure-front-requires-2 Inv-loop μ-loop
+sure-front-requires-2 c κs = search needs
 
 loop-holds : tie.Need-loop-holds Inv-loop μ-loop
 unfolding merge mergeRest
 loop-holds c =
     let s = c .before .before .before .before .before in
-    (whole (c .before .read-front .ensures) (c .read-front2 .ensures), begun (merge (s .args .a .now) (s .args .b .now)) (s .args .out .now) (s .pre .0))
+    let p = both-pass (pos 0) (pos 0) (s .args .a .now) (s .args .b .now) (s .pre .0) in (
+      whole (c .before .sure-front .ensures (pos 0) (p .0)) (c .sure-front2 .ensures (pos 0) (p .1)),
+      begun (merge (s .args .a .now) (s .args .b .now)) (s .args .out .now) (s .pre .0),
+    )
 
 choose-requires : tie.Need-choose-requires Inv-loop μ-loop
 choose-requires c κs = search needs
@@ -65,94 +69,106 @@ returns-2 c =
     let l = k .before .before .before .loop .inv in
     all-written (l .1) (refused (l .0) (k .choose .ensures) (c .enum-told2 .given .1))
 
-enum-known-c : tie.Need-enum-known-c Inv-loop μ-loop
-enum-known-c c = search needs
+enum-told-3 : tie.Need-enum-told-3 Inv-loop μ-loop
+enum-told-3 c = search needs
 
 put-first-requires : tie.Need-put-first-requires Inv-loop μ-loop
 put-first-requires c κs =
-    let t = c .before .before in
+    let t = c .before in
     let k = t .before .before in
     let i = k .before .before .before in
-    line-fits (i .loop .inv .1) _ _ (first (i .loop .inv .0) (k .choose .ensures) (t .c .given .1) refl) (i .before .before .before .before .before .before .pre .1)
+    line-fits (i .loop .inv .1) _ _ (first (i .loop .inv .0) (k .choose .ensures) (t .enum-told3 .given .1) refl) (i .before .before .before .before .before .before .pre .1)
 
 step-requires : tie.Need-step-requires Inv-loop μ-loop
 step-requires c κs = search needs
 
-read-front-requires-3 : tie.Need-read-front-requires-3 Inv-loop μ-loop
-read-front-requires-3 c κs = search needs
+sure-front-requires-3 : tie.Need-sure-front-requires-3 Inv-loop μ-loop
+sure-front-requires-3 c κs = search needs
 
 loop-less : tie.Need-loop-less Inv-loop μ-loop
 loop-less c =
-    let t = c .before .before .before .before .before .before .before in
+    let t = c .before .before .before .before .before .before in
     let k = t .before .before in
-    omega (arith, first-less (k .before .before .before .loop .inv .0) (k .choose .ensures) (t .c .given .1) (c .before .step .ensures))
+    let behind = rw (t .enum-told3 .given .1) at (c .before .step .ensures) in
+    omega (arith, first-less (k .before .before .before .loop .inv .0) (k .choose .ensures) (t .enum-told3 .given .1) behind)
 
 loop-again : tie.Need-loop-again Inv-loop μ-loop
 loop-again c =
-    let t = c .before .before .before .before .before .before .before in
+    let t = c .before .before .before .before .before .before in
     let k = t .before .before in
-    let l = k .before .before .before .loop .inv in
-    let n = t .c .given .0 .0 in
+    let behind = rw (t .enum-told3 .given .1) at (c .before .step .ensures) in
+    let i = k .before .before .before in
+    let l = i .loop .inv in
+    let n = t .enum-told3 .given .0 .0 in
     let r = c .before .step .result .now in
-    let is = first (l .0) (k .choose .ensures) (t .c .given .1) (c .before .step .ensures) in
-    (behind-first (l .0) n r (held n (lines r) (sfits-mag n (c .before .before .before .before .before .before .known-told .given .0 .1)) (c .read-front3 .ensures)), line-written (l .1) _ _ is (c .before .before .before .before .put-first .ensures))
+    let is = first (l .0) (k .choose .ensures) (t .enum-told3 .given .1) behind in
+    let left = line-written (l .1) _ _ is (c .before .before .before .before .put-first .ensures) in
+    (behind-first (l .0) n r (c .sure-front3 .ensures n (both-pass n (l .0 .k) r (i .loop .q .now) (left .free) .0)), left)
 
-enum-known-c-2 : tie.Need-enum-known-c-2 Inv-loop μ-loop
-enum-known-c-2 c = search needs
+enum-told-4 : tie.Need-enum-told-4 Inv-loop μ-loop
+enum-told-4 c = search needs
 
 step-requires-2 : tie.Need-step-requires-2 Inv-loop μ-loop
 step-requires-2 c κs = search needs
 
-read-front-requires-4 : tie.Need-read-front-requires-4 Inv-loop μ-loop
-read-front-requires-4 c κs = search needs
+sure-front-requires-4 : tie.Need-sure-front-requires-4 Inv-loop μ-loop
+sure-front-requires-4 c κs = search needs
 
 loop-less-2 : tie.Need-loop-less-2 Inv-loop μ-loop
 loop-less-2 c =
-    let t = c .before .before .before in
+    let t = c .before .before in
     let k = t .before .before in
-    omega (arith, passed-less (k .before .before .before .loop .inv .0) (k .choose .ensures) (t .c2 .given .1) (c .before .step2 .ensures))
+    let behind = rw (t .enum-told4 .given .1) at (c .before .step2 .ensures) in
+    omega (arith, passed-less (k .before .before .before .loop .inv .0) (k .choose .ensures) (t .enum-told4 .given .1) behind)
 
 loop-again-2 : tie.Need-loop-again-2 Inv-loop μ-loop
 loop-again-2 c =
-    let t = c .before .before .before in
+    let t = c .before .before in
     let k = t .before .before in
-    let l = k .before .before .before .loop .inv in
-    let n = t .c2 .given .0 .0 in
+    let behind = rw (t .enum-told4 .given .1) at (c .before .step2 .ensures) in
+    let i = k .before .before .before in
+    let l = i .loop .inv in
+    let n = t .enum-told4 .given .0 .0 in
     let r = c .before .step2 .result .now in
-    let is = passed (l .0) (k .choose .ensures) (t .c2 .given .1) (c .before .step2 .ensures) in
-    (behind-first (l .0) n r (held n (lines r) (sfits-mag n (c .before .before .known-told2 .given .0 .1)) (c .read-front4 .ensures)), nothing-written (l .1) is)
+    let is = passed (l .0) (k .choose .ensures) (t .enum-told4 .given .1) behind in
+    let left = nothing-written (l .1) is in
+    (behind-first (l .0) n r (c .sure-front4 .ensures n (both-pass n (l .0 .k) r (i .loop .q .now) (left .free) .0)), left)
 
-enum-known-c-3 : tie.Need-enum-known-c-3 Inv-loop μ-loop
-enum-known-c-3 c = search needs
+enum-told-5 : tie.Need-enum-told-5 Inv-loop μ-loop
+enum-told-5 c = search needs
 
 put-first-requires-2 : tie.Need-put-first-requires-2 Inv-loop μ-loop
 put-first-requires-2 c κs =
-    let t = c .before .before in
+    let t = c .before in
     let k = t .before .before in
     let i = k .before .before .before in
-    line-fits (i .loop .inv .1) _ _ (second (i .loop .inv .0) (k .choose .ensures) (t .c3 .given .1) refl) (i .before .before .before .before .before .before .pre .1)
+    line-fits (i .loop .inv .1) _ _ (second (i .loop .inv .0) (k .choose .ensures) (t .enum-told5 .given .1) refl) (i .before .before .before .before .before .before .pre .1)
 
 step-requires-3 : tie.Need-step-requires-3 Inv-loop μ-loop
 step-requires-3 c κs = search needs
 
-read-front-requires-5 : tie.Need-read-front-requires-5 Inv-loop μ-loop
-read-front-requires-5 c κs = search needs
+sure-front-requires-5 : tie.Need-sure-front-requires-5 Inv-loop μ-loop
+sure-front-requires-5 c κs = search needs
 
 loop-less-3 : tie.Need-loop-less-3 Inv-loop μ-loop
 loop-less-3 c =
-    let t = c .before .before .before .before .before .before .before in
+    let t = c .before .before .before .before .before .before in
     let k = t .before .before in
-    omega (arith, second-less (k .before .before .before .loop .inv .0) (k .choose .ensures) (t .c3 .given .1) (c .before .step3 .ensures))
+    let behind = rw (t .enum-told5 .given .1) at (c .before .step3 .ensures) in
+    omega (arith, second-less (k .before .before .before .loop .inv .0) (k .choose .ensures) (t .enum-told5 .given .1) behind)
 
 loop-again-3 : tie.Need-loop-again-3 Inv-loop μ-loop
 loop-again-3 c =
-    let t = c .before .before .before .before .before .before .before in
+    let t = c .before .before .before .before .before .before in
     let k = t .before .before in
-    let l = k .before .before .before .loop .inv in
-    let n = t .c3 .given .0 .0 in
+    let behind = rw (t .enum-told5 .given .1) at (c .before .step3 .ensures) in
+    let i = k .before .before .before in
+    let l = i .loop .inv in
+    let n = t .enum-told5 .given .0 .0 in
     let r = c .before .step3 .result .now in
-    let is = second (l .0) (k .choose .ensures) (t .c3 .given .1) (c .before .step3 .ensures) in
-    (behind-second (l .0) n r (held n (lines r) (sfits-mag n (c .before .before .before .before .before .before .known-told3 .given .0 .1)) (c .read-front5 .ensures)), line-written (l .1) _ _ is (c .before .before .before .before .put-first2 .ensures))
+    let is = second (l .0) (k .choose .ensures) (t .enum-told5 .given .1) behind in
+    let left = line-written (l .1) _ _ is (c .before .before .before .before .put-first2 .ensures) in
+    (behind-second (l .0) n r (c .sure-front5 .ensures n (both-pass (l .0 .j) n (i .loop .p .now) r (left .free) .1)), left)
 
 -- where the loop ends one sheet has no more lines
 module _ (c : tie.Left-loop Inv-loop μ-loop) where
@@ -193,8 +209,8 @@ write-spec =
     (tie.spec
     Inv-loop
     μ-loop
-    read-front-requires
-    read-front-requires-2
+    sure-front-requires
+    sure-front-requires-2
     loop-holds
     choose-requires
     enum-told
@@ -203,21 +219,21 @@ write-spec =
     enum-told-2
     same-length-2
     returns-2
-    enum-known-c
+    enum-told-3
     put-first-requires
     step-requires
-    read-front-requires-3
+    sure-front-requires-3
     loop-less
     loop-again
-    enum-known-c-2
+    enum-told-4
     step-requires-2
-    read-front-requires-4
+    sure-front-requires-4
     loop-less-2
     loop-again-2
-    enum-known-c-3
+    enum-told-5
     put-first-requires-2
     step-requires-3
-    read-front-requires-5
+    sure-front-requires-5
     loop-less-3
     loop-again-3
     put-all-requires
