@@ -3,9 +3,9 @@
 use plain::{c, engines, merge, sheet};
 use reference::answer::write_record;
 use reference::damage::{every_damage, longest_line, merges};
+use reference::merge::merge_into;
 use reference::samples::{self, exp_input, line, log_input, Random};
 use reference::width::WIDTH_48 as W;
-use reference::merge::merge_into;
 use reference::{exponential, logarithm};
 use std::io::Write;
 use std::process::{Command, Stdio};

@@ -1,6 +1,7 @@
 //! The race: prints the tables of `bench/run` as markdown. `race quick` prints the same from a
-//! few rounds, without instructions, `race merges` the last of them alone. `race calls EXP|LOG PLACE COUNT` runs COUNT small batches of
-//! one contender and nothing else, for counting instructions.
+//! few rounds, without instructions; `race merges` prints the last of them alone. `race calls
+//! EXP|LOG PLACE COUNT` runs COUNT small batches of one contender and nothing else, for counting
+//! instructions.
 
 mod callgrind;
 mod contenders;

@@ -23,12 +23,17 @@ fn two_sheets(lines: usize) -> [Vec<u8>; 2] {
     sheets
 }
 
-fn call(merge: fn(&[u8], &[u8], &mut [u8]) -> i64, [first, second]: &[Vec<u8>; 2], out: &mut [u8]) -> usize {
+fn call(
+    merge: fn(&[u8], &[u8], &mut [u8]) -> i64,
+    [first, second]: &[Vec<u8>; 2],
+    out: &mut [u8],
+) -> usize {
     merge(first, second, out).try_into().expect("sheets that are merged")
 }
 
 fn example(files: &[SheetFile; 2]) -> Command {
-    let mut command = Command::new(env::current_exe().expect("this program").with_file_name("../merge_sheets"));
+    let mut command =
+        Command::new(env::current_exe().expect("this program").with_file_name("../merge_sheets"));
     command.args(files.iter().map(|file| &file.0));
     command
 }
@@ -54,7 +59,9 @@ pub fn race(effort: &Effort) {
         let mut out = vec![0; sheets[0].len() + sheets[1].len() + 2];
         let written = call(compare::merge, &sheets, &mut out);
         let wanted = out[..written].to_vec();
-        assert!(call(plain::merge::merge, &sheets, &mut out) == written && out[..written] == wanted);
+        assert!(
+            call(plain::merge::merge, &sheets, &mut out) == written && out[..written] == wanted
+        );
         assert!(output(example(&files)) == wanted, "merge_sheets merges differently");
         assert!(output(sort(&files)) == wanted, "sort merges differently");
 
@@ -66,7 +73,10 @@ pub fn race(effort: &Effort) {
         };
         let mut contenders: [Contender; 4] = [
             ("bkm_merge", Box::new(|| assert!(call(compare::merge, &sheets, &mut out) == written))),
-            ("plain Rust", Box::new(|| assert!(call(plain::merge::merge, &sheets, &mut other) == written))),
+            (
+                "plain Rust",
+                Box::new(|| assert!(call(plain::merge::merge, &sheets, &mut other) == written)),
+            ),
             ("merge_sheets, from files", Box::new(|| run(example(&files)))),
             ("sort -m -n -u, from files", Box::new(|| run(sort(&files)))),
         ];

@@ -1,10 +1,9 @@
 -- THE MERGED SHEET, read again: its lines are those that were merged, and the program never answers one of them with 7.
-use mathlib.Core.Path.{_≡_, refl, sym, _∙_}
+use mathlib.Core.Path.{_≡_, refl, _∙_}
 use mathlib.Core.List.{List, [], _∷_, _++_}
 use Prim.Native.Nat.{ℕ}
 use lib.IntN.{ℤ, pos}
 use lib.Signed.{clashℤ}
-use Rattle.algebra.specs.Order.{_⩽_, _⋖_}
 use Rattle.word.proofs.Compare.{lt-leZ}
 use Rattle.text.specs.Line.{readLine}
 use Rattle.stream.specs.declared.State.{State}

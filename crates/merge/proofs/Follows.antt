@@ -6,13 +6,13 @@ use Prim.Native.Nat.{ℕ, suc, _+_, _-_, _<_}
 use native.Mathlib.Omega.{arith}
 use lib.Dec.{eqb}
 use lib.IntN.{ℤ}
-use lib.ListN.{length, getD, length-append}
+use lib.ListN.{length, getD}
 use borrow.Author.Tests.{eq-eqb, ne-eqb, eqb-true}
 use Rattle.buffer.proofs.Either.{either}
 use Rattle.stream.specs.Machine.{lastLine, linesFrom, lines}
 use Rattle.stream.proofs.Lines.{no-line}
 use Rattle.merge.specs.declared.Front.{Front}
-use Rattle.merge.specs.Merge.{Merge, _then_, alone, follow, mergeFrom}
+use Rattle.merge.specs.Merge.{_then_, alone, follow, mergeFrom}
 use Rattle.merge.specs.Call.{text}
 use Rattle.merge.proofs.Rules.{no-stop, InFront, malformed, fallen, risen, in-front}
 use Rattle.merge.proofs.Turn.{mergeRest, one-sheet}

@@ -18,9 +18,9 @@ use Rattle.scan.specs.Fields.{sameBytes}
 use Rattle.scan.proofs.Fields.{same-self}
 use Rattle.stream.specs.Machine.{lastLine, linesFrom, lines}
 use Rattle.merge.specs.declared.Choice.{Choice}
-use Rattle.merge.specs.Merge.{choice, bySerial, Merge, stopped, _then_, act, follow, mergeFrom, merge}
+use Rattle.merge.specs.Merge.{choice, Merge, stopped, _then_, act, follow, mergeFrom, merge}
 use Rattle.merge.specs.Call.{text}
-use Rattle.merge.proofs.Rules.{Numbered, one-number, front-risen, BySerial, below, above, twins, differ, by-serial, Above, Stops, no-stop, Under, Merges, none, stop, first, second, passed, merges}
+use Rattle.merge.proofs.Rules.{Numbered, one-number, front-risen, BySerial, below, above, twins, differ, by-serial, Stops, no-stop, Under, Merges, none, stop, first, second, passed, merges}
 
 -- ---- the serials rise from one on, and each line has one
 pub data Rising : ℤ → List (List ℕ) → Type 0 where

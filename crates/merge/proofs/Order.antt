@@ -11,7 +11,7 @@ use Rattle.scan.specs.Fields.{sameBytes}
 use Rattle.stream.specs.Machine.{lines}
 use Rattle.merge.specs.declared.Front.{Front}
 use Rattle.merge.specs.declared.Choice.{Choice}
-use Rattle.merge.specs.Merge.{frontLine, bySerial, choice, Merge, _then_, act, follow, mergeFrom, merge}
+use Rattle.merge.specs.Merge.{bySerial, choice, Merge, _then_, act, mergeFrom, merge}
 use Rattle.merge.proofs.Rules.{Numbered, InFront, malformed, fallen, risen, in-front, BySerial, below, above, twins, differ, by-serial}
 use Rattle.merge.proofs.Laws.{strictly, _among_}
 use Rattle.merge.proofs.Turn.{one-sheet}

@@ -19,7 +19,7 @@ use Rattle.merge.specs.declared.Front.{Front}
 use Rattle.merge.specs.declared.Choice.{Choice}
 use Rattle.merge.specs.Merge.{byNumber, frontLine, bySerial, choice, Merge, stopped, _then_, act, alone, follow, mergeFrom}
 use Rattle.scan.specs.declared.Number.the-variants as num
-use Rattle.merge.specs.declared.Front.the-variants.{End, Malformed, Fallen, Risen}
+use Rattle.merge.specs.declared.Front.the-variants.{Malformed, Fallen, Risen}
 use Rattle.merge.specs.declared.Choice.the-variants.{Done, First, Passed, Second, Refused}
 
 -- ---- a line and its serial

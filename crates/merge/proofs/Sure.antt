@@ -1,7 +1,7 @@
 -- A line that does not stop a merge: its serial stands before the first tab of the sheet.
 use mathlib.Core.Path.{_≡_, refl, sym, ap, subst, _∙_}
-use mathlib.Core.List.{List, [], _∷_}
-use Prim.Native.Nat.{ℕ, _<_, _≤_}
+use mathlib.Core.List.{List}
+use Prim.Native.Nat.{ℕ, _≤_}
 use native.Mathlib.Omega.{arith}
 use lib.IntN.{ℤ}
 use lib.ListN.{length, take}
@@ -13,7 +13,7 @@ use Rattle.scan.proofs.Find.{ended, before-take}
 use Rattle.text.proofs.Serial.{first-number}
 use Rattle.stream.specs.Machine.{lines}
 use Rattle.merge.specs.declared.Front.{Front}
-use Rattle.merge.specs.Merge.{frontLine, front}
+use Rattle.merge.specs.Merge.{front}
 use Rattle.merge.specs.Code.{Passes}
 use Rattle.merge.proofs.Rules.{Numbered, number-is, InFront, malformed, fallen, risen, in-front, front-risen, merges}
 use Rattle.merge.proofs.Laws.{Rising, end, more, both-rose}

@@ -1,5 +1,5 @@
 -- The merge a step at a time, by the choice at the lines in front of the two rests.
-use mathlib.Core.Path.{_≡_, refl, sym, ap, _∙_}
+use mathlib.Core.Path.{_≡_, refl, ap}
 use mathlib.Core.Bool.{Bool}
 use mathlib.Core.List.{List, [], _∷_}
 use Prim.Native.Nat.{ℕ, suc, _<_}
@@ -15,7 +15,7 @@ use Rattle.stream.specs.Machine.{lines, linesFrom, lastLine}
 use Rattle.stream.proofs.Lines.{no-line, some-line}
 use Rattle.merge.specs.declared.Front.{Front}
 use Rattle.merge.specs.declared.Choice.{Choice}
-use Rattle.merge.specs.Merge.{frontLine, front, bySerial, choice, Merge, stopped, _then_, act, alone, follow, mergeFrom, merge}
+use Rattle.merge.specs.Merge.{frontLine, front, choice, Merge, stopped, _then_, act, alone, follow, mergeFrom}
 use Rattle.merge.specs.Call.{firstLine, behind}
 use Rattle.merge.specs.declared.Front.the-variants.{End, Malformed, Fallen, Risen}
 use Rattle.merge.specs.declared.Choice.the-variants.{Done, First, Passed, Second, Refused}

@@ -219,10 +219,10 @@ fn sure_front(s: &[u8]) -> Front
         return Front::End;
     }
     let tab = scan::find_byte(s, 0, 9);
-    let Number::Is(serial) = scan::read_number(s, 0, tab) else {
-        return Front::Malformed;
-    };
-    Front::Risen(serial)
+    match scan::read_number(s, 0, tab) {
+        Number::Is(serial) => Front::Risen(serial),
+        Number::Not => Front::Malformed,
+    }
 }
 
 // What a merge copies that nothing stops; back comes how many bytes it is.

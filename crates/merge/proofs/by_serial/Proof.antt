@@ -3,8 +3,6 @@ use mathlib.Core.Path.{_≡_, sym, _∙_}
 use mathlib.Core.Bool.{true, false}
 use lib.Signed.{ltZ}
 use Rattle.word.proofs.Fits.{back}
-use Rattle.scan.specs.Fields.{sameBytes}
-use Rattle.merge.specs.Call.{firstLine}
 use borrow.Author.Needs.{needs}
 use Rattle.merge.proofs.by_serial.Statement.{statement}
 use Rattle.merge.proofs.by_serial.Tie as tie

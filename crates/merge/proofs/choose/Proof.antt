@@ -1,5 +1,4 @@
 -- `merge::choose` meets its contract: case by case.
-use mathlib.Core.Path.{_≡_, _∙_}
 use Rattle.word.proofs.Fits.{back, sfits-mag}
 use Rattle.merge.specs.Merge.{choice}
 use borrow.Author.Needs.{needs}

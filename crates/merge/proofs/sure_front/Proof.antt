@@ -35,13 +35,13 @@ enum-told : tie.Need-enum-told
 enum-told c = search needs
 
 returns-2 : tie.Need-returns-2
-returns-2 c = λ last h. not-none (sure-here (c .before .before) last h) (c .enum-told .given .1)
-
-returns-3 : tie.Need-returns-3
-returns-3 c = λ last h.
+returns-2 c = λ last h.
     let k = c .before in
     let is = risen-as (sure-here (k .before .before) last h) (k .serial .given .1) in
     rw (back (sfits-mag (k .serial .given .0 .0) (c .known-told .given .0 .1))) (sym is)
+
+returns-3 : tie.Need-returns-3
+returns-3 c = λ last h. not-none (sure-here (c .before .before) last h) (c .enum-told .given .1)
 
 pub sure-front-spec : {M : Type 1} → statement M
 sure-front-spec =
