@@ -30,20 +30,13 @@ pub called : (b : List ℕ) {b′ : List ℕ} {a answer : Answer} {r : ℤ} → 
 called b {r = r} e f h = let told = rw e at h in (back (sfits-mag r f) ∙ told .0, told .1)
 
 -- ---- a merge's count, or minus its refusal number
-module _ (r : ℕ) (bytes : List ℕ) where
-  pub count-handed : pos r ≡ pos 0 → pos (length bytes) ≡ countOrRefusal r bytes
-  count-handed = go r
-    where
-      go : (r : ℕ) → pos r ≡ pos 0 → pos (length bytes) ≡ countOrRefusal r bytes
-      go zero e = refl
-      go (suc k) e = absurd (some (ap natAbs e))
-        where
-          some : suc k ≡ 0 → ⊥
-          some e = omega arith
+pub count-handed : (r : ℕ) (bytes : List ℕ) → pos r ≡ pos 0 → pos (length bytes) ≡ countOrRefusal r bytes
+count-handed zero bytes e = refl
+count-handed (suc k) bytes e = absurd (some (ap natAbs e))
+  where
+    some : suc k ≡ 0 → ⊥
+    some e = omega arith
 
-  pub refusal-handed : (pos r ≡ pos 0 → ⊥) → pos 0 -ℤ pos r ≡ countOrRefusal r bytes
-  refusal-handed = go r
-    where
-      go : (r : ℕ) → (pos r ≡ pos 0 → ⊥) → pos 0 -ℤ pos r ≡ countOrRefusal r bytes
-      go zero n = absurd (n refl)
-      go (suc k) n = zero-sub (pos (suc k))
+pub refusal-handed : (r : ℕ) (bytes : List ℕ) → (pos r ≡ pos 0 → ⊥) → pos 0 -ℤ pos r ≡ countOrRefusal r bytes
+refusal-handed zero bytes n = absurd (n refl)
+refusal-handed (suc k) bytes n = zero-sub (pos (suc k))

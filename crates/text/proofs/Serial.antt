@@ -1,5 +1,5 @@
 -- A line that is read has a serial in its range, and it is the number in front of the first tab.
-use mathlib.Core.Path.{_≡_, sym, subst}
+use mathlib.Core.Path.{_≡_, refl, sym, subst, _∙_}
 use mathlib.Core.Bool.{true}
 use mathlib.Core.List.{List, [], _∷_}
 use Prim.Native.Nat.{ℕ, suc, _+_, _<_}
@@ -16,6 +16,7 @@ use Rattle.scan.specs.Fields.{fields, fieldsAt, sameBytes}
 use Rattle.scan.proofs.Find.{Ended}
 use Rattle.scan.proofs.Fields.{no-field, field-parts}
 use Rattle.scan.specs.Numbers.{Numbers, are, none, numbers}
+use Rattle.text.specs.declared.Line.{Line}
 use Rattle.text.specs.Line.{isSerial, EXP, LOG, formed, expOf, logOf, kindLine, serialLine, lineOf, readLine, serialOf}
 use Rattle.scan.specs.declared.Number.the-variants as num
 
@@ -67,19 +68,17 @@ kind-read : (serial z : ℤ) (fs : List (List ℕ)) → serialOf (kindLine seria
 unfolding kindLine
 kind-read serial z [] e = absurd (subst Some (sym e) tt)
 kind-read serial z (f ∷ fs) e =
-    either (sameBytes f EXP) (λ g. exp (numbers 5 fs) (rw g at e))
-    (λ g. either (sameBytes f LOG) (λ h. log (numbers 3 fs) (rw (g, h) at e)) (λ h. absurd (subst Some (sym (rw (g, h) at e)) tt)))
+    either (sameBytes f EXP) (λ g. kind (numbers 5 fs) (expOf serial) (λ zs. refl) (rw g at e))
+    (λ g. either (sameBytes f LOG) (λ h. kind (numbers 3 fs) (logOf serial) (λ zs. refl) (rw (g, h) at e))
+    (λ h. absurd (subst Some (sym (rw (g, h) at e)) tt)))
   where
     more : 0 < suc (length fs)
     more = omega arith
 
-    exp : (r : Numbers) → serialOf (formed r (expOf serial)) ≡ num.Is z → Read z (num.Is serial) (f ∷ fs)
-    exp (are zs) e = record { number = e; others = more }
-    exp none e = absurd (subst Some (sym e) tt)
-
-    log : (r : Numbers) → serialOf (formed r (logOf serial)) ≡ num.Is z → Read z (num.Is serial) (f ∷ fs)
-    log (are zs) e = record { number = e; others = more }
-    log none e = absurd (subst Some (sym e) tt)
+    kind : (r : Numbers) (k : List ℤ → Line) → ((zs : List ℤ) → serialOf (k zs) ≡ num.Is serial) → serialOf (formed r k) ≡ num.Is z →
+        Read z (num.Is serial) (f ∷ fs)
+    kind (are zs) k is e = record { number = sym (is zs) ∙ e; others = more }
+    kind none k is e = absurd (subst Some (sym e) tt)
 
 line-read : (z : ℤ) (r : Number) (fs : List (List ℕ)) → serialOf (serialLine r fs) ≡ num.Is z → Read z r fs
 line-read z num.Not fs e = absurd (subst Some (sym e) tt)

@@ -1,10 +1,11 @@
 -- `controller::bkm_merge` meets its contract: what the merge gives, as one number.
 use mathlib.Core.Path.{_≡_, sym, ap, _∙_}
-use Prim.Native.Nat.{_<_, _^_}
+use mathlib.Core.List.{List, _++_}
+use Prim.Native.Nat.{ℕ, _≤_, _<_, _^_}
 use native.Mathlib.Omega.{arith}
 use borrow.Author.Needs.{needs}
 use lib.IntN.{pos}
-use lib.ListN.{length}
+use lib.ListN.{length, drop}
 use mir.Syntax.{w64}
 use mir.Val.{SFits, ofZ}
 use Rattle.word.proofs.Fits.{back, sfits-pos, sfits-neg, word-pos, word-inj, zero-sub}
@@ -17,17 +18,32 @@ use Rattle.controller.proofs.bkm_merge.Tie as tie
 zero-fits : SFits w64 (pos 0)
 zero-fits = sfits-pos (omega arith)
 
--- ---- both figures are words
+-- ---- what the merge gives, in two words
 module _ (c : tie.After-merge) where
   abbrev start : tie.Start
   start = c .before .before .before .before .before
 
+  abbrev refusal : ℕ
+  refusal = refusalFor (start .args .a .now) (start .args .b .now) (start .args .out .now)
+
+  abbrev bytes : List ℕ
+  bytes = bytesFor (start .args .a .now) (start .args .b .now) (start .args .out .now)
+
+  told : (c .merge .result .refusal ≡ pos refusal)
+      × ((c .merge .result .written ≡ length bytes) × (c .merge .last .1 .1 .0 ≡ bytes ++ drop (c .merge .result .written) (start .args .out .now)))
+  told = c .merge .ensures
+
   written-fits : c .merge .result .written < 2 ^ 63
-  written-fits =
-      omega (arith, c .merge .ensures .1 .0, bytes-fit (start .args .a .now) (start .args .b .now) (start .args .out .now), start .good .1 .1 .0 .1)
+  written-fits = omega (arith, told .1 .0, bytes-fit (start .args .a .now) (start .args .b .now) (start .args .out .now), start .good .1 .1 .0 .1)
+
+  refusal-small : refusal ≤ 8
+  refusal-small = refusal-most (start .args .a .now) (start .args .b .now) (start .args .out .now)
 
   refusal-fits : SFits w64 (c .merge .result .refusal)
-  refusal-fits = rw (c .merge .ensures .0) (sfits-pos (omega (arith, refusal-most (start .args .a .now) (start .args .b .now) (start .args .out .now))))
+  refusal-fits = rw (told .0) (sfits-pos (omega (arith, refusal-small)))
+
+  out-is : c .merge .last .1 .1 .0 ≡ bytes ++ drop (length bytes) (start .args .out .now)
+  out-is = told .1 .1 ∙ ap (λ n. bytes ++ drop n (start .args .out .now)) (told .1 .0)
 
 merge-requires : tie.Need-merge-requires
 merge-requires c κs = search needs
@@ -41,19 +57,13 @@ same-length c = search needs
 returns : tie.Need-returns
 returns c =
     let m = c .before .before .before .before .before in
-    let s = start m .args in
-    let r = refusalFor (s .a .now) (s .b .now) (s .out .now) in
-    let bytes = bytesFor (s .a .now) (s .b .now) (s .out .now) in
-    let none : pos r ≡ pos 0 = sym (m .merge .ensures .0) ∙ word-inj (refusal-fits m) zero-fits (c .before .if1 .taken) in (
-      word-pos (m .merge .result .written) (written-fits m) ∙ (ap pos (m .merge .ensures .1 .0) ∙ count-handed r bytes none),
-      rw (m .merge .ensures .1 .0) at (m .merge .ensures .1 .1),
-    )
+    let none : pos (refusal m) ≡ pos 0 = sym (told m .0) ∙ word-inj (refusal-fits m) zero-fits (c .before .if1 .taken) in
+    (word-pos (m .merge .result .written) (written-fits m) ∙ (ap pos (told m .1 .0) ∙ count-handed (refusal m) (bytes m) none), out-is m)
 
 sub-result : tie.Need-sub-result
 sub-result c =
     let m = c .before .before .before .before in
-    let s = start m .args in
-    rw (back (refusal-fits m), m .merge .ensures .0, zero-sub) (sfits-neg (refusalFor (s .a .now) (s .b .now) (s .out .now)) (omega (arith, refusal-most (s .a .now) (s .b .now) (s .out .now))))
+    rw (back (refusal-fits m), told m .0, zero-sub) (sfits-neg (refusal m) (omega (arith, refusal-small m)))
 
 same-length-2 : tie.Need-same-length-2
 same-length-2 c = search needs
@@ -61,13 +71,8 @@ same-length-2 c = search needs
 returns-2 : tie.Need-returns-2
 returns-2 c =
     let m = c .before .before .before .before in
-    let s = start m .args in
-    let r = refusalFor (s .a .now) (s .b .now) (s .out .now) in
-    let bytes = bytesFor (s .a .now) (s .b .now) (s .out .now) in
-    let some : pos r ≡ pos 0 → ⊥ = λ e. c .if1 .left (ap (ofZ w64) (m .merge .ensures .0 ∙ e)) in (
-      back (sub-result c) ∙ (rw (back (refusal-fits m), m .merge .ensures .0) (refusal-handed r bytes some)),
-      rw (m .merge .ensures .1 .0) at (m .merge .ensures .1 .1),
-    )
+    let some : pos (refusal m) ≡ pos 0 → ⊥ = λ e. c .if1 .left (ap (ofZ w64) (told m .0 ∙ e)) in
+    (back (sub-result c) ∙ rw (back (refusal-fits m), told m .0) (refusal-handed (refusal m) (bytes m) some), out-is m)
 
 pub bkm-merge-spec : {M : Type 1} → statement M
 bkm-merge-spec =
