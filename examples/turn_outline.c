@@ -1,4 +1,5 @@
-/* Turns the outline of a kernel by half a radian and prints each point with its bound.
+/* Turns the outline of a kernel by half a radian and prints each point with its bound. For so
+ * small an exponent k is 0.
  *
  *     gcc -Iinclude examples/turn_outline.c target/staticlib/libcontroller.a -o turn_outline
  */

@@ -8,18 +8,18 @@
  * two's complement, low byte first.
  *
  *     bytes  0 to  7   the refusal number, or 0
- *            8 to 15   the first part of the answer, in units
- *           16 to 23   the second part, in units
- *           24 to 31   k, the binary exponent (0 for EXP)
+ *            8 to 15   the first part of the answer, in units (for EXP, times 2^k)
+ *           16 to 23   the second part, likewise
+ *           24 to 31   k, the binary exponent
  *           32 to 39   q, the quadrant, -2 to 2 (0 for EXP)
- *           40 to 47   the error bound, in units
+ *           40 to 47   the error bound, in units (for EXP, times 2^k)
  *
  * The call returns the refusal number, or 0. In a refused record the other five
  * numbers are 0. Refusals, the first that holds:
  *
  *     6   out_len is under 48; nothing is written
  *     1   n is out of range
- *     2   EXP: the exponent lies outside the rectangle
+ *     2   EXP: a part of the exponent is over 8 in size, that is 2^51 units
  *     3   a part of the start or of the point is over 2^58 in size
  *     4   LOG: the point is zero
  *
@@ -40,12 +40,17 @@ extern "C" {
 /* The start (sx, sy) times the exponential of (ex, ey)/2^48, by n steps.
  *
  *     n             1 to 40
- *     ex            -233096465088512 to 241892558110720, that is -53/64 to 55/64
- *     ey            at most 206708186021888 in size, that is 47/64
+ *     ex, ey        at most 2^51 in size, that is 8
  *     sx, sy        at most 2^58 in size
  *
- * Each part of the answer is off by at most the error bound, which is 8*M/2^n
- * rounded up, plus 2*n; M is the larger of the sizes of sx and sy.
+ * The value is 2^k times the answer; each part of it is off by at most 2^k times the
+ * error bound, which is 8*M/2^n rounded up, plus 2*n.
+ *
+ * k is 0 and M is the larger of the sizes of sx and sy where the exponent lies in a
+ * rectangle around nought: ex from -233096465088512 to 241892558110720, that is -53/64 to
+ * 55/64, and ey at most 206708186021888 in size, that is 47/64. Outside it k is from -12 to
+ * 12, and M is the larger of the sizes of the parts of the start times 1, 1+i, i, -1+i, -1,
+ * -1-i, -i or 1-i, by p modulo 8, where p is ey/2^48 over pi/4, rounded.
  */
 int64_t bkm_exp(int64_t n, int64_t ex, int64_t ey, int64_t sx, int64_t sy, uint8_t *out, size_t out_len);
 

@@ -50,7 +50,7 @@ static int all(const uint8_t *bytes, size_t length, uint8_t value)
 
 int main(void)
 {
-    const int64_t one = INT64_C(1) << 48, most = INT64_C(1) << 58;
+    const int64_t one = INT64_C(1) << 48, eight = 8 * one, most = INT64_C(1) << 58;
     uint8_t out[64];
 
     memset(out, 0xa5, sizeof out);
@@ -59,7 +59,10 @@ int main(void)
     check("bytes past the 48 keep their values", all(out + 48, 16, 0xa5));
 
     check("N = 0 is refused before the exponent", bkm_exp(0, INT64_MAX, 0, one, 0, out, 48) == 1 && holds(out, 1, 0, 0, 0, 0, 0));
-    check("an exponent past 55/64", bkm_exp(40, INT64_C(241892558110721), 0, one, 0, out, 48) == 2 && holds(out, 2, 0, 0, 0, 0, 0));
+    check("an exponent past 55/64 is taken: k is 1", bkm_exp(40, INT64_C(241892558110721), 0, one, 0, out, 48) == 0 && number(out, 3) == 1);
+    check("an exponent of 8 - 8i", bkm_exp(40, eight, -eight, one, 0, out, 48) == 0 && holds(out, 0, -INT64_C(29805663453324), -INT64_C(202669911213431), 12, 0, 2128));
+    check("an exponent past 8", bkm_exp(40, eight + 1, 0, one, 0, out, 48) == 2 && holds(out, 2, 0, 0, 0, 0, 0));
+    check("and past -8", bkm_exp(40, 0, -eight - 1, one, 0, out, 48) == 2 && holds(out, 2, 0, 0, 0, 0, 0));
     check("a start of -2^63", bkm_exp(40, 0, 0, INT64_MIN, 0, out, 48) == 3 && holds(out, 3, 0, 0, 0, 0, 0));
     check("a start of 2^58 is taken", bkm_exp(1, 0, 0, most, -most, out, 48) == 0);
 
@@ -76,7 +79,7 @@ int main(void)
     check("and so is no buffer at all", bkm_exp(40, 0, 0, one, 0, out, 0) == 6);
     check("and nothing is written", all(out, sizeof out, 0x5a));
 
-    const char *line = "1\tEXP\t40\t0\t0\t281474976710656\t0", *answer = "1\tEXP\t40\t281474976710656\t0\t2128\n";
+    const char *line = "1\tEXP\t40\t0\t0\t281474976710656\t0", *answer = "1\tEXP\t40\t281474976710656\t0\t0\t2128\n";
     uint8_t text[130];
     memset(text, 0xa5, sizeof text);
     size_t length = bkm_line((const uint8_t *)line, strlen(line), text, sizeof text);

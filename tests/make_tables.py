@@ -1,8 +1,8 @@
 #!/usr/bin/env python3
 """The tables of paper 01 at a width of F fraction bits (32, 40 or 48).
 
-step_table(F), reciprocals() and reciprocal_logs(F) are what a code generator
-imports; `make_tables.py dump F` prints the three, one entry to a line.
+step_table(F), reciprocals(), reciprocal_logs(F) and constants(F) are what a code
+generator imports; `make_tables.py dump F` prints them all, one entry to a line.
 """
 
 import functools
@@ -113,6 +113,11 @@ def reciprocal_logs(F):
     return [[logarithm(a, b, 64, F) for a, b in row] for row in reciprocals()]
 
 
+def constants(F):
+    """pi/4, ln 2 and half of ln 2 as the nearest units (02, E5)."""
+    return tuple(nearest(value, F) for value in (pi() // 4, ln_2(), ln_2() // 2))
+
+
 def dump(F):
     """One entry to a line: table, its two or three indices, its two numbers."""
     for n, rows in enumerate(step_table(F), 1):
@@ -123,6 +128,10 @@ def dump(F):
         for X, row in zip(range(17, 32, 2), table):
             for Y, entry in zip(range(-31, 32, 2), row):
                 print(name, X, Y, *entry)
+    # The constants as the logarithms of 1 + i and of 2.
+    quarter_pi, whole, half = constants(F)
+    print("constant", 1, 1, half, quarter_pi)
+    print("constant", 2, 0, whole, 0)
 
 
 def main(arguments):

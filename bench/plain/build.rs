@@ -1,8 +1,8 @@
-//! Writes the tables for Rust and for C, computed by the second implementation, and compiles the
-//! C version with the clang that compiles the product.
+//! Writes the tables and constants for Rust and for C, computed by the second implementation, and
+//! compiles the C version with the clang that compiles the product.
 
 use reference::point::{point, Point};
-use reference::tables::{cell_xs, cell_ys, reciprocal, tables};
+use reference::tables::{cell_xs, cell_ys, reciprocal, tables, Tables};
 use reference::width::WIDTH_48;
 use std::path::{Path, PathBuf};
 use std::process::Command;
@@ -43,6 +43,16 @@ fn written_tables() -> [(&'static str, &'static str, &'static [usize], String); 
     ]
 }
 
+/// Each constant: what it is, its name and its units.
+fn constants() -> [(&'static str, &'static str, i128); 3] {
+    let Tables { log_of_one_plus_i, log_of_two, .. } = tables(WIDTH_48);
+    [
+        ("pi/4", "EIGHTH_TURN", log_of_one_plus_i.y),
+        ("ln 2", "LN_2", log_of_two.x),
+        ("half of ln 2", "HALF_LN_2", log_of_one_plus_i.x),
+    ]
+}
+
 fn write_tables(folder: &Path) {
     let mut rust = String::new();
     let mut c = "#include <stdint.h>\nstruct entry { int64_t re, im; };\n".to_string();
@@ -53,6 +63,10 @@ fn write_tables(folder: &Path) {
         let c_sizes: String = sizes.iter().map(|size| format!("[{size}]")).collect();
         let braces = entries.replace(['[', '('], "{").replace([']', ')'], "}");
         c += &format!("/* {what} */\nstatic const struct entry {name}{c_sizes} = {braces};\n");
+    }
+    for (what, name, units) in constants() {
+        rust += &format!("/// {what}\npub const {name}: i64 = {units};\n");
+        c += &format!("/* {what} */\n#define {name} INT64_C({units})\n");
     }
     fs::write(folder.join("tables.rs"), rust).unwrap();
     fs::write(folder.join("tables.h"), c).unwrap();

@@ -10,7 +10,7 @@ import sys
 
 HERE = pathlib.Path(__file__).resolve().parent
 sys.path.insert(0, str(HERE.parent))
-from make_tables import reciprocal_logs, reciprocals, step_table  # noqa: E402
+from make_tables import constants, reciprocal_logs, reciprocals, step_table  # noqa: E402
 
 CRATES = HERE.parent.parent / "crates"
 WIDTH = 48
@@ -54,8 +54,10 @@ use Rattle.table_numbers.specs.Listed.{neg}
 
 def numbers_spec():
     steps = listed(["(" + "\n    ∷ ".join(row_of(row) for row in rows) + "\n    ∷ [])" for rows in step_table(WIDTH)], 4)
-    return f"""-- The two tables of logarithms at the width {WIDTH}, each part as the nearest whole number of units of 1/2^{WIDTH}. {MADE}
-{SPEC_USES}
+    quarter_pi, ln_2, half_ln_2 = constants(WIDTH)
+    return f"""-- The tables of logarithms and the constants at the width {WIDTH}, each number as the nearest unit of 1/2^{WIDTH}. {MADE}
+{SPEC_USES}use Rattle.table_numbers.specs.Promise.{{Constants}}
+
 -- ln(1 + d/2^n): for each n from 1 to {WIDTH - 8} three rows by dx, each of three entries by dy, from −1 to 1 (01, The step)
 unfoldable pub stepLogs : List (List (List 𝔾))
 stepLogs =
@@ -65,6 +67,10 @@ stepLogs =
 unfoldable pub reciprocalLogs : List (List 𝔾)
 reciprocalLogs =
 {nested(reciprocal_logs(WIDTH), 3)}
+
+-- the constants of EXP's reduction (02, E5)
+unfoldable pub constants48 : Constants
+constants48 = record {{ quarter-pi = {quarter_pi}; ln-2 = {ln_2}; half-ln-2 = {half_ln_2} }}
 """
 
 

@@ -65,7 +65,8 @@ fn panel(page: &mut Page, left: f64, title: &str, given: &str, first: i64, fract
 
 pub fn picture() -> String {
     let mut page = Page::new(900.0, 415.0);
-    panel(&mut page, 78.0, "EXP: the bound is 8M/2^N + 2N units", "start", 1, exp_fraction);
+    let exp = "EXP: the bound is 8M/2^N + 2N units, times 2^k";
+    panel(&mut page, 78.0, exp, "multiplied start", 1, exp_fraction);
     panel(&mut page, 528.0, "LOG: the bound is 3M/2^N units", "point", 3, log_fraction);
     let legend = [
         ("bound", "the bound, proved for every input".to_string()),

@@ -12,7 +12,7 @@ use reference::width::WIDTH_48;
 use std::f64::consts::{FRAC_PI_2, LN_2};
 
 const POINTS: usize = 360;
-/// The last turn is the largest that EXP takes, 47/64.
+/// The last turn is the largest that EXP takes as it is, 47/64.
 const TURNS: i64 = 4;
 const N: i64 = 40;
 

@@ -6,6 +6,7 @@
 #include <string.h>
 
 #define ONE (INT64_C(1) << 48)
+#define MAX_EXPONENT (8 * ONE)
 #define MAX_PART (INT64_C(1) << 58)
 
 static struct answer refused(int64_t number) {
@@ -22,14 +23,43 @@ static int64_t share(int64_t factor, int64_t x, int64_t y, int64_t n) {
     return (factor * larger + (INT64_C(1) << n) - 1) >> n;
 }
 
+static int exponent_part_is_refused(int64_t part) {
+    return part < -MAX_EXPONENT || part > MAX_EXPONENT;
+}
+
+static int in_rectangle(int64_t ex, int64_t ey) {
+    return ex >= -53 * ONE / 64 && ex <= 55 * ONE / 64 && ey >= -47 * ONE / 64 && ey <= 47 * ONE / 64;
+}
+
+/* floor(part/unit + 1/2) for a part above -15 units: what is divided is not negative. */
+static int64_t nearest_multiple(int64_t part, int64_t unit) {
+    return (2 * part + 31 * unit) / (2 * unit) - 15;
+}
+
 struct answer engine_exp(int64_t n, int64_t ex, int64_t ey, int64_t sx, int64_t sy) {
     if (n < 1 || n > 40)
         return refused(1);
-    if (ex < -53 * ONE / 64 || ex > 55 * ONE / 64 || ey < -47 * ONE / 64 || ey > 47 * ONE / 64)
+    if (exponent_part_is_refused(ex) || exponent_part_is_refused(ey))
         return refused(2);
     if (part_is_refused(sx) || part_is_refused(sy))
         return refused(3);
-    int64_t x = sx, y = sy;
+    int64_t x = sx, y = sy, k = 0;
+    if (!in_rectangle(ex, ey)) {
+        int64_t p = nearest_multiple(ey, EIGHTH_TURN);
+        ey -= p * EIGHTH_TURN;
+        /* The start times (1 + i)^p, but for the powers of two. */
+        if (p & 1)
+            ex -= HALF_LN_2, x = sx - sy, y = sx + sy;
+        if (p & 2) {
+            int64_t old_x = x;
+            x = -y, y = old_x;
+        }
+        if (p & 4)
+            x = -x, y = -y;
+        k = nearest_multiple(ex, LN_2);
+        ex -= k * LN_2;
+    }
+    int64_t bound = share(8, x, y, n) + 2 * n;
     for (int64_t i = 1; i <= n; i++) {
         int64_t dx = (ex >= (ONE / 8 * 3) >> i) - (ex < (-ONE / 2) >> i);
         int64_t dy = (ey >= (ONE / 16 * 13) >> i) - (ey < (-ONE / 4 * 3) >> i);
@@ -40,7 +70,7 @@ struct answer engine_exp(int64_t n, int64_t ex, int64_t ey, int64_t sx, int64_t 
         ex -= entry.re;
         ey -= entry.im;
     }
-    return (struct answer){.x = x, .y = y, .bound = share(8, sx, sy, n) + 2 * n};
+    return (struct answer){.x = x, .y = y, .k = k, .bound = bound};
 }
 
 struct answer engine_log(int64_t n, int64_t px, int64_t py) {

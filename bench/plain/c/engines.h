@@ -1,4 +1,4 @@
-/* EXP and LOG of paper 01 as one would write them in C with nothing proved. */
+/* EXP and LOG of the papers as one would write them in C with nothing proved. */
 #ifndef ENGINES_H
 #define ENGINES_H
 

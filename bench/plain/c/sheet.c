@@ -92,7 +92,7 @@ static char *answer_line(const char *at, const char *end, char *out) {
     if (a.refusal != 0)
         return put_refusal(out, serial, a.refusal);
     if (is_exp)
-        return put_line(out, serial, "EXP", (int64_t[]){v[0], a.x, a.y, a.bound}, 4);
+        return put_line(out, serial, "EXP", (int64_t[]){v[0], a.x, a.y, a.k, a.bound}, 5);
     return put_line(out, serial, "LOG", (int64_t[]){v[0], a.x, a.y, a.k, a.q, a.bound}, 6);
 }
 

@@ -1,6 +1,6 @@
 //! EXP and LOG, and the record of 48 bytes that the C calls fill.
 
-use crate::tables::{RECIPROCALS, RECIPROCAL_LOGS, STEPS};
+use crate::tables::{EIGHTH_TURN, HALF_LN_2, LN_2, RECIPROCALS, RECIPROCAL_LOGS, STEPS};
 
 #[derive(Clone, Copy, PartialEq, Eq, Debug)]
 pub enum Refusal {
@@ -24,6 +24,7 @@ pub struct Figures {
 }
 
 const ONE: i64 = 1 << 48;
+const MAX_EXPONENT: i64 = 8 * ONE;
 const MAX_PART: i64 = 1 << 58;
 
 /// Rounded to the nearest: `half` is half of 2^n. Each engine makes it in the form that is the
@@ -53,20 +54,43 @@ fn share(factor: i64, x: i64, y: i64, n: i64) -> i64 {
     (factor * larger + (1 << n) - 1) >> n
 }
 
+fn exponent_part_is_refused(part: i64) -> bool {
+    !(-MAX_EXPONENT..=MAX_EXPONENT).contains(&part)
+}
+
+fn in_rectangle(ex: i64, ey: i64) -> bool {
+    (-53 * ONE / 64..=55 * ONE / 64).contains(&ex) && (-47 * ONE / 64..=47 * ONE / 64).contains(&ey)
+}
+
+/// floor(part/unit + 1/2)
+fn nearest_multiple(part: i64, unit: i64) -> i64 {
+    (2 * part + unit).div_euclid(2 * unit)
+}
+
 pub fn exp(n: i64, ex: i64, ey: i64, sx: i64, sy: i64) -> Result<Figures, Refusal> {
     if !(1..=40).contains(&n) {
         return Err(Refusal::Steps);
     }
-    if !(-53 * ONE / 64..=55 * ONE / 64).contains(&ex)
-        || !(-47 * ONE / 64..=47 * ONE / 64).contains(&ey)
-    {
+    if exponent_part_is_refused(ex) || exponent_part_is_refused(ey) {
         return Err(Refusal::Exponent);
     }
     if part_is_refused(sx) || part_is_refused(sy) {
         return Err(Refusal::Part);
     }
+    let (mut ex, mut ey, mut x, mut y, mut k) = (ex, ey, sx, sy, 0);
+    if !in_rectangle(ex, ey) {
+        let p = nearest_multiple(ey, EIGHTH_TURN);
+        ey -= p * EIGHTH_TURN;
+        ex -= (p & 1) * HALF_LN_2;
+        // The start times (1 + i)^p, but for the powers of two.
+        (x, y) = if p & 1 == 0 { (x, y) } else { (x - y, x + y) };
+        (x, y) = if p & 2 == 0 { (x, y) } else { (-y, x) };
+        (x, y) = if p & 4 == 0 { (x, y) } else { (-x, -y) };
+        k = nearest_multiple(ex, LN_2);
+        ex -= k * LN_2;
+    }
+    let bound = share(8, x, y, n) + 2 * n;
     let digit = |e: i64, low: i64, high: i64| i64::from(e >= high) - i64::from(e < low);
-    let (mut ex, mut ey, mut x, mut y) = (ex, ey, sx, sy);
     for (i, entries) in steps(1, n) {
         let dx = digit(ex, (-ONE / 2) >> i, (ONE / 8 * 3) >> i);
         let dy = digit(ey, (-ONE / 4 * 3) >> i, (ONE / 16 * 13) >> i);
@@ -75,7 +99,7 @@ pub fn exp(n: i64, ex: i64, ey: i64, sx: i64, sy: i64) -> Result<Figures, Refusa
         ex -= re;
         ey -= im;
     }
-    Ok(Figures { x, y, k: 0, q: 0, bound: share(8, sx, sy, n) + 2 * n })
+    Ok(Figures { x, y, k, q: 0, bound })
 }
 
 pub fn log(n: i64, px: i64, py: i64) -> Result<Figures, Refusal> {

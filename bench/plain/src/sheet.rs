@@ -56,8 +56,8 @@ pub fn answer_line(largest: &mut i64, line: &[u8], out: &mut impl Write) -> io::
     *largest = serial;
     match call {
         Call::Exp([n, ex, ey, sx, sy]) => match exp(n, ex, ey, sx, sy) {
-            Ok(Figures { x, y, bound, .. }) => {
-                writeln!(out, "{serial}\tEXP\t{n}\t{x}\t{y}\t{bound}")
+            Ok(Figures { x, y, k, bound, .. }) => {
+                writeln!(out, "{serial}\tEXP\t{n}\t{x}\t{y}\t{k}\t{bound}")
             }
             Err(refusal) => refuse(out, serial, refusal),
         },

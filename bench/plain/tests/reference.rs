@@ -3,6 +3,7 @@
 use plain::{c, engines, merge, sheet};
 use reference::answer::write_record;
 use reference::damage::{every_damage, longest_line, merges};
+use reference::edges::{exp_refusals, exp_scales, far_exp_records};
 use reference::merge::merge_into;
 use reference::samples::{self, exp_input, line, log_input, Random};
 use reference::width::WIDTH_48 as W;
@@ -22,8 +23,10 @@ fn outcome(call: impl FnOnce(&mut [u8]) -> i64) -> (i64, [u8; 48]) {
 #[test]
 fn exp() {
     let mut random = Random::new(11);
-    for _ in 0..SAMPLES {
-        let i = exp_input(&mut random, W);
+    let drawn = (0..SAMPLES).map(|_| exp_input(&mut random, W));
+    let edges = exp_refusals().into_iter().chain(exp_scales()).map(|(input, _)| input);
+    let reduced_to_nought = far_exp_records().into_iter().map(|(input, _)| input);
+    for i in drawn.chain(edges).chain(reduced_to_nought) {
         let ours = outcome(|out| engines::exp_record(i.n, i.ex, i.ey, i.sx, i.sy, out));
         let theirs = outcome(|out| write_record(exponential::exp(i, W), out));
         assert_eq!(ours, theirs, "{i:?}");

@@ -6,7 +6,7 @@ use reference::fixed::Complex;
 use reference::logarithm::Input as Log;
 use std::hint::black_box;
 
-/// What an answer stands for: EXP's value in units; LOG's logarithm, with k and q.
+/// What an answer stands for: EXP's value in units, its k included; LOG's logarithm, with k and q.
 pub struct Answer {
     pub value: Complex,
     pub k: i64,
@@ -74,12 +74,7 @@ fn from_record<Input: Operation>(input: Input, call: fn(Input, &mut [u8]) -> i64
     let mut out = [0u8; 48];
     assert_eq!(call(input, &mut out), 0, "refused");
     let number = |i: usize| i64::from_le_bytes(out[8 * i..8 * i + 8].try_into().unwrap());
-    Answer {
-        value: Complex::ratio(number(1).into(), number(2).into(), Input::FRACTION_BITS),
-        k: number(3),
-        q: number(4),
-        bound: Some(number(5) as f64),
-    }
+    Input::answer([1, 2, 3, 4, 5].map(number))
 }
 
 extern "C" {

@@ -1,6 +1,6 @@
 //! The race: prints the tables of `bench/run` as markdown. `race quick` prints the same from a
 //! few rounds, without instructions; `race merges` prints the last of them alone. `race calls
-//! EXP|LOG PLACE COUNT` runs COUNT small batches of one contender and nothing else, for counting
+//! COURSE PLACE COUNT` runs COUNT small batches of one contender and nothing else, for counting
 //! instructions.
 
 mod callgrind;
@@ -14,7 +14,7 @@ mod table;
 use callgrind::instructions_per_item;
 use contenders::{contenders, missing, Contender, STEPS};
 use effort::{Effort, FULL, QUICK};
-use operation::Operation;
+use operation::{Course, Operation, EXP, FAR_EXP, LOG};
 use reference::exponential::Input as Exp;
 use reference::logarithm::Input as Log;
 use reference::samples::Random;
@@ -28,12 +28,15 @@ const SMALL_BATCH: usize = 500;
 fn main() {
     let arguments: Vec<String> = env::args().skip(1).collect();
     match arguments.iter().map(String::as_str).collect::<Vec<_>>()[..] {
-        ["calls", "EXP", place, count] => calls::<Exp>(place, count),
-        ["calls", "LOG", place, count] => calls::<Log>(place, count),
+        ["calls", name, place, count] if name == LOG.name => calls(&LOG, place, count),
+        ["calls", name, place, count] => {
+            let course = [EXP, FAR_EXP].into_iter().find(|course| course.name == name);
+            calls(&course.expect("a course"), place, count)
+        }
         [] => race_all(&FULL),
         ["quick"] => race_all(&QUICK),
         ["merges"] => merges::race(&FULL),
-        _ => panic!("race [quick|merges], or race calls EXP|LOG PLACE COUNT"),
+        _ => panic!("race [quick|merges], or race calls COURSE PLACE COUNT"),
     }
 }
 
@@ -45,13 +48,17 @@ fn race_all(effort: &Effort) {
          {batch} calls, the contenders taking turns; a ratio is the median of the rounds' ratios. \
          Errors are the worst of {judged} calls with parts up to one, measured as demand 3 of \
          paper 01 compares: for LOG, how far the exponential of the answer is from the point. A \
-         unit is 2^-48."
+         unit is 2^-48; with exponents up to eight, errors and bounds are those of 2^k times the \
+         answer."
     );
     if let Some(c) = plain::c::VERSION {
         println!("\nPlain C is compiled by {}, as the product is.", c.compiler);
     }
-    race::<Exp>(effort);
-    race::<Log>(effort);
+    compare_versions::<Exp>(effort);
+    race(&EXP, effort);
+    race(&FAR_EXP, effort);
+    compare_versions::<Log>(effort);
+    race(&LOG, effort);
     for name in missing() {
         println!("\nNot installed, so not in the race: {name}.");
     }
@@ -59,15 +66,19 @@ fn race_all(effort: &Effort) {
     merges::race(effort);
 }
 
-fn inputs<Input: Operation>(contender: &Contender<Input>, count: usize) -> Vec<Input> {
+fn inputs<Input: Operation>(
+    course: &Course<Input>,
+    contender: &Contender<Input>,
+    count: usize,
+) -> Vec<Input> {
     let mut random = Random::new(31);
     let n = contender.steps.unwrap_or(STEPS[0]);
-    (0..count).map(|_| Input::everyday(&mut random, n)).collect()
+    (0..count).map(|_| (course.draw)(&mut random, n)).collect()
 }
 
-fn calls<Input: Operation>(place: &str, count: &str) {
+fn calls<Input: Operation>(course: &Course<Input>, place: &str, count: &str) {
     let contender = &contenders::<Input>()[place.parse::<usize>().expect("a place")];
-    let inputs = inputs(contender, SMALL_BATCH);
+    let inputs = inputs(course, contender, SMALL_BATCH);
     for _ in 0..count.parse().expect("a count") {
         (contender.batch)(&inputs);
     }
@@ -90,9 +101,13 @@ fn compare_versions<Input: Operation>(effort: &Effort) {
 }
 
 /// The worst error and the largest bound that came with an answer, in units.
-fn judge<Input: Operation>(contender: &Contender<Input>, effort: &Effort) -> (f64, Option<f64>) {
+fn judge<Input: Operation>(
+    course: &Course<Input>,
+    contender: &Contender<Input>,
+    effort: &Effort,
+) -> (f64, Option<f64>) {
     let (mut worst, mut largest) = (0f64, None);
-    for input in inputs(contender, effort.judged) {
+    for input in inputs(course, contender, effort.judged) {
         let answer = (contender.answer)(input);
         let error = input.error(&answer).to_f64();
         // A column is a promise; the other bounds are not ours to check.
@@ -105,8 +120,13 @@ fn judge<Input: Operation>(contender: &Contender<Input>, effort: &Effort) -> (f6
 }
 
 /// Nanoseconds per call, by contender and round.
-fn times<Input: Operation>(all: &[Contender<Input>], effort: &Effort) -> Vec<Vec<f64>> {
-    let batches: Vec<_> = all.iter().map(|contender| inputs(contender, effort.batch)).collect();
+fn times<Input: Operation>(
+    course: &Course<Input>,
+    all: &[Contender<Input>],
+    effort: &Effort,
+) -> Vec<Vec<f64>> {
+    let batches: Vec<_> =
+        all.iter().map(|contender| inputs(course, contender, effort.batch)).collect();
     let mut times = vec![Vec::new(); all.len()];
     for round in 0..=effort.rounds {
         for (place, contender) in all.iter().enumerate() {
@@ -121,10 +141,9 @@ fn times<Input: Operation>(all: &[Contender<Input>], effort: &Effort) -> Vec<Vec
     times
 }
 
-fn race<Input: Operation>(effort: &Effort) {
-    compare_versions::<Input>(effort);
+fn race<Input: Operation>(course: &Course<Input>, effort: &Effort) {
     let all = contenders::<Input>();
-    let times = times(&all, effort);
+    let times = times(course, &all, effort);
     let ratio = |place: usize, n: i64| {
         // The product is the first with this N; other N do other work.
         let product = all.iter().position(|c| c.steps == Some(n)).expect("the product");
@@ -134,10 +153,10 @@ fn race<Input: Operation>(effort: &Effort) {
         format!("{:.2}", median(times[place].iter().zip(&times[product]).map(|(a, b)| a / b)))
     };
     let rows = all.iter().enumerate().map(|(place, contender)| {
-        let (worst, largest) = judge(contender, effort);
+        let (worst, largest) = judge(course, contender, effort);
         let instructions = instructions_per_item(effort, [1, 3], SMALL_BATCH, |command, count| {
             command.arg(env::current_exe().expect("this program"));
-            command.args(["calls", Input::NAME, &place.to_string(), &count.to_string()]);
+            command.args(["calls", course.name, &place.to_string(), &count.to_string()]);
         });
         vec![
             contender.name.clone(),
@@ -153,7 +172,7 @@ fn race<Input: Operation>(effort: &Effort) {
     });
     let versus = |n: i64| format!("time / {}, N = {n}", Input::PRODUCT);
     print_table(
-        Input::NAME,
+        course.name,
         &[
             "",
             "ns, median",

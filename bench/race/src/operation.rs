@@ -8,8 +8,18 @@ use reference::point::{point, Point};
 use reference::samples::{self, Random};
 use reference::width::WIDTH_48;
 
+/// Inputs that are raced: how they are called, and one of them for N.
+pub struct Course<Input> {
+    pub name: &'static str,
+    pub draw: fn(&mut Random, i64) -> Input,
+}
+
+pub const EXP: Course<Exp> = Course { name: "EXP", draw: Exp::everyday };
+pub const FAR_EXP: Course<Exp> =
+    Course { name: "EXP with exponents up to eight", draw: up_to_eight };
+pub const LOG: Course<Log> = Course { name: "LOG", draw: Log::everyday };
+
 pub trait Operation: Copy + std::fmt::Debug {
-    const NAME: &'static str;
     /// The C call.
     const PRODUCT: &'static str;
     /// Bits of the answer's numbers after the point: EXP answers in units, LOG in ones.
@@ -25,6 +35,8 @@ pub trait Operation: Copy + std::fmt::Debug {
     /// The plain version in C, where there is one.
     fn plain_c(self, out: &mut [u8]) -> i64;
     fn others() -> Vec<Contender<Self>>;
+    /// What a record says, from the parts on.
+    fn answer(numbers: [i64; 5]) -> Answer;
     /// The larger part of what demand 3 of 01 compares, in units.
     fn error(self, answer: &Answer) -> Fixed;
 }
@@ -41,8 +53,14 @@ fn whole(p: Point) -> Complex {
     Complex::ratio(p.x, p.y, 0)
 }
 
+/// Everyday starts with exponents that EXP reduces, all but one in a hundred.
+fn up_to_eight(random: &mut Random, n: i64) -> Exp {
+    let eight = WIDTH_48.max_exponent();
+    let [ex, ey] = [(); 2].map(|_| random.between(-eight, eight) as i64);
+    Exp { n, ex, ey, sx: up_to_one(random), sy: up_to_one(random) }
+}
+
 impl Operation for Exp {
-    const NAME: &'static str = "EXP";
     const PRODUCT: &'static str = "bkm_exp";
     const FRACTION_BITS: u32 = 0;
 
@@ -71,15 +89,25 @@ impl Operation for Exp {
         other_exponentials()
     }
 
+    fn answer([x, y, k, _, bound]: [i64; 5]) -> Answer {
+        // k is at least -12.
+        let whole = |part: i64| i128::from(part) << (12 + k);
+        Answer {
+            value: Complex::ratio(whole(x), whole(y), 12),
+            k: 0,
+            q: 0,
+            bound: Some(bound as f64 * 2f64.powi(k as i32)),
+        }
+    }
+
     fn error(self, answer: &Answer) -> Fixed {
         let exponent = Complex::ratio(self.ex.into(), self.ey.into(), 48);
-        // 40 terms: 1.2^40/40! is below 2^-148.
-        (answer.value - whole(self.start()) * exponent.exponential(40)).larger_part()
+        // 100 terms: for exponents up to eight 11.4^100/100! is below 2^-170.
+        (answer.value - whole(self.start()) * exponent.exponential(100)).larger_part()
     }
 }
 
 impl Operation for Log {
-    const NAME: &'static str = "LOG";
     const PRODUCT: &'static str = "bkm_log";
     const FRACTION_BITS: u32 = 48;
 
@@ -105,6 +133,11 @@ impl Operation for Log {
 
     fn others() -> Vec<Contender<Log>> {
         other_logarithms()
+    }
+
+    fn answer([x, y, k, q, bound]: [i64; 5]) -> Answer {
+        let value = Complex::ratio(x.into(), y.into(), Log::FRACTION_BITS);
+        Answer { value, k, q, bound: Some(bound as f64) }
     }
 
     /// How far the exponential of the answer is from the point.

@@ -8,7 +8,7 @@ use Rattle.answer.specs.declared.Answer.{Answer}
 use Rattle.answer.specs.declared.Answer.the-variants.{Answered, Refused}
 use Rattle.answer.specs.Refusal.{refusalNumber}
 
--- "the refusal number or 0, the two parts, k, q (both 0 for EXP) and the column"
+-- "the refusal number or 0, the two parts, k, q (both 0 for EXP) and the column"; 02, E5: EXP's k stands "in the controller's k field"
 abbrev pub numbers : ℤ → Figures → List ℤ
 numbers refusal f = refusal ∷ f .value .x ∷ f .value .y ∷ f .«binary_exponent» ∷ f .quadrant ∷ f .«error_bound» ∷ []
 

@@ -8,7 +8,7 @@ use point::Point;
 pub enum Refusal {
     // 1: the count of steps is out of range
     Steps,
-    // 2: the exponent lies outside the rectangle
+    // 2: a part of the exponent is over 8 in size
     Exponent,
     // 3: a part is over 2^58 in size
     Part,
@@ -16,8 +16,8 @@ pub enum Refusal {
     Zero,
 }
 
-// EXP: value is the start times the exponential of the exponent, nearly; binary_exponent and quadrant are 0. LOG: value is the logarithm;
-// the point is 2^binary_exponent * i^quadrant * exp(value), nearly. error_bound, in units, says how nearly.
+// EXP: value times 2^binary_exponent is the start times the exponential of the exponent, nearly; quadrant is 0. LOG: value is the logarithm;
+// the point is 2^binary_exponent * i^quadrant * exp(value), nearly. error_bound says how nearly: in units, for EXP times 2^binary_exponent.
 pub struct Figures {
     pub value: Point,
     pub binary_exponent: i64,

@@ -16,12 +16,13 @@ use Rattle.point.specs.Step.{quotient, step}
 use Rattle.point.specs.Limits.{inSteps, inBox, inParts}
 use Rattle.answer.specs.Record.{recordOf}
 use Rattle.table_numbers.specs.Cell.{cellOf}
-use Rattle.table_numbers.specs.Numbers48.{stepLogs, reciprocalLogs}
+use Rattle.table_numbers.specs.Numbers48.{stepLogs, reciprocalLogs, constants48}
 use Rattle.table_numbers.specs.Reciprocal.{reciprocal}
 use Rattle.table_numbers.specs.Table.{stepTable, reciprocalTable}
 use Rattle.iteration.specs.Select.{exp-select, cut-back, log-select}
 use Rattle.iteration.specs.Run.{select, next, run, digits}
-use Rattle.exponential.specs.Answer.{inRectangle, answer, expAnswer}
+use Rattle.exponential.specs.Reduction.{inRectangle, inReach, factor, eighths, turned-re, doublings, left-over, reduction}
+use Rattle.exponential.specs.Answer.{answer, expAnswer}
 use Rattle.logarithm.specs.Reduction.{turn-back, turns-back, quarters, turned, spelling, quadrant, bits-from, bits, bit-length, binary-exponent, scaled, column, row, reduced}
 use Rattle.logarithm.specs.Answer.{isZero, answer as log-answer, logAnswer}
 use Rattle.edges.specs.Cases.{Case, hands-out, exp-opens, log-opens, has-reciprocal, cases, Holds, All}
@@ -68,7 +69,8 @@ all-tested (c ∷ cs) = both (tested c) (all-tested cs)
 
 -- THE STATEMENT: every case of the table holds
 pub cases-hold : All cases
-unfolding all-tested tested equals equalᵍ equal at-most both by recordOf expAnswer answer inSteps inRectangle inParts inBox between logAnswer
+unfolding all-tested tested equals equalᵍ equal at-most both by recordOf expAnswer answer inSteps inReach inRectangle
+    reduction left-over doublings turned-re eighths factor constants48 inParts inBox between logAnswer
     log-answer isZero digits run next select exp-select log-select cut-back stepTable stepLogs reciprocalTable reciprocalLogs cellOf step
     quotient quadrant spelling quarters turned turns-back turn-back binary-exponent bit-length bits bits-from scaled reduced column row
     reciprocal nearest floorᵍ ιᵍ negᵍ _+ᵍ_ _*ᵍ_

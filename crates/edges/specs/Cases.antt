@@ -99,9 +99,12 @@ figure = gi (pos 143552238122434) (pos 81627743246090)
 
 abbrev pub cases : List Case
 cases =
-    -- "EXP ex 241892558110720 accepted; one more: 2"
-    hands-out (EXP (pos 40) (real (pos 241892558110720)) unity) (accepted ∷ [])
-    ∷ hands-out (EXP (pos 40) (real (pos 241892558110721)) unity) (refused 2 ∷ [])
+    -- "EXP ex 241892558110720 accepted; one more: 2"; since request E5 "the edge of 01 just past 55/64 is now accepted and the edge that is
+    -- refused moves to 2^51 + 1", and k is "0 within the rectangle"
+    hands-out (EXP (pos 40) (real (pos 241892558110720)) unity) (accepted ∷ k= (pos 0) ∷ [])
+    ∷ hands-out (EXP (pos 40) (real (pos 241892558110721)) unity) (accepted ∷ k= (pos 1) ∷ [])
+    ∷ hands-out (EXP (pos 40) (real (pos (2 ^ 51))) unity) (accepted ∷ k= (pos 12) ∷ [])
+    ∷ hands-out (EXP (pos 40) (real (pos (2 ^ 51 + 1))) unity) (refused 2 ∷ [])
     -- "start part 2^58 and −2^58 accepted; 2^58 + 1 and −2^63: 3", in either part
     ∷ hands-out (EXP (pos 40) nought (real (pos (2 ^ 58)))) (accepted ∷ [])
     ∷ hands-out (EXP (pos 40) nought (real (minus (2 ^ 58)))) (accepted ∷ [])
@@ -111,7 +114,7 @@ cases =
     ∷ hands-out (EXP (pos 40) nought (imaginary (minus (2 ^ 58)))) (accepted ∷ [])
     ∷ hands-out (EXP (pos 40) nought (imaginary (pos (2 ^ 58 + 1)))) (refused 3 ∷ [])
     ∷ hands-out (EXP (pos 40) nought (imaginary (minus (2 ^ 63)))) (refused 3 ∷ [])
-    -- "N = 0 with a bad exponent: 1. LOG N = 2: 1; N = 3 accepted"; the exponent is over 8, so it is bad under request E5 too
+    -- "N = 0 with a bad exponent: 1. LOG N = 2: 1; N = 3 accepted"; the exponent is over 8, which request E5 left bad
     ∷ hands-out (EXP (pos 0) (real (pos (2 ^ 51 + 1))) unity) (refused 1 ∷ [])
     ∷ hands-out (LOG (pos 2) unity) (refused 1 ∷ [])
     ∷ hands-out (LOG (pos 3) unity) (accepted ∷ [])

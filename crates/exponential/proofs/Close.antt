@@ -1,124 +1,143 @@
--- What is proved of the answer: what its tests say, convergence, and that it is close, at the width 48 with no hypothesis left.
+-- What is proved of the answer: when each is given, convergence, and that it is close, at the width 48 with no hypothesis left.
 use mathlib.Core.Path.{_≡_, sym, subst}
-use mathlib.Core.Bool.{true, false}
+use mathlib.Core.Bool.{true, false, cond}
 use mathlib.Core.List.{[], _∷_}
 use Prim.Native.Nat.{ℕ, _+_, _-_, _^_, _≤_}
 use native.Mathlib.Omega.{arith}
 use lib.IntN.{ℤ, pos, natAbs, _*ℤ_}
-use Rattle.algebra.specs.Gauss.{𝔾, gi, _*ᵍ_, two, twoᵍ}
+use Rattle.algebra.specs.Gauss.{𝔾, gi, _-ᵍ_, _*ᵍ_, two, twoᵍ}
 use Rattle.algebra.specs.Order.{_⩽_}
 use Rattle.algebra.specs.Size.{abs, Parts, larger}
-use Rattle.algebra.proofs.Reify.{reify}
+use Rattle.algebra.proofs.Gauss.{𝔾R}
+use Rattle.algebra.proofs.Reify.{ring!, reify, reifyᵍ}
 use Rattle.algebra.proofs.Order.{nonneg-pos, nonneg-mul, sub-nonneg}
-use Rattle.algebra.proofs.Linear.{lin, _&_, _&≡_, none}
+use Rattle.algebra.proofs.Linear.{lin, _&_, none}
 use Rattle.algebra.proofs.Inequality.{le-cancel}
-use Rattle.algebra.proofs.Power.{two≥1, two-whole}
-use Rattle.algebra.proofs.Parts.{parts-abs}
+use Rattle.algebra.proofs.Power.{two≥1}
+use Rattle.algebra.proofs.Parts.{parts-abs, parts-weaken}
 use Rattle.algebra.proofs.Larger.{larger-parts}
-use Rattle.series.specs.Series.{D, Dᶻ}
+use Rattle.series.specs.Series.{D, Sᵍ, Dᵍ, Dᶻ}
 use Rattle.point.specs.Point.{gauss}
 use Rattle.point.specs.Limits.{inSteps, inParts}
-use Rattle.point.proofs.InLimits.{Counts, steps-say, box-says}
+use Rattle.point.proofs.InLimits.{Counts, steps-say}
 use Rattle.answer.specs.declared.Refusal.the-variants.{Steps, Exponent, Part}
 use Rattle.answer.specs.declared.Answer.{Answer}
 use Rattle.answer.specs.declared.Answer.the-variants.{Answered, Refused}
 use Rattle.answer.proofs.Tests.{unless-keeps}
-use Rattle.table_numbers.specs.Promise.{StepTable}
+use Rattle.table_numbers.specs.Promise.{StepTable, Constants}
+use Rattle.table_numbers.specs.Numbers48.{constants48}
 use Rattle.table_numbers.specs.Table.{stepTable}
-use Rattle.table_numbers.proofs.Promises.{StepPromise}
+use Rattle.table_numbers.proofs.Promises.{StepPromise, ConstantsPromise}
+use Rattle.table_numbers.proofs.Promise48.{constants-promise}
 use Rattle.tables.proofs.Promises.{step-promise}
 use Rattle.iteration.specs.Run.{state}
-use Rattle.exponential.specs.Answer.{inRectangle, ended, figures, answer, errorBound, expAnswer, miss, allowed, CloseAt, Close}
+use Rattle.exponential.specs.declared.reduction.Reduced.{Reduced}
+use Rattle.exponential.specs.Reduction.{inRectangle, inReach, reduced, unreduced, reduction}
+use Rattle.exponential.specs.Answer.{ended, figures, answer, errorBound, expAnswer, up, miss, allowed, CloseAt, CloseFor, Close}
 use Rattle.exponential.proofs.Convergence.{Rectangle, Below, converges}
 use Rattle.exponential.proofs.Error.{exp-error}
+use Rattle.exponential.proofs.Given.{rectangle-says, reach-says, by-rectangle, given-rectangle}
+use Rattle.exponential.proofs.Far.{far-error}
 use Rattle.exponential.proofs.Bound.{bound-enough}
-
--- ---- what the test of the rectangle says
-pub rectangle-says : (F : ℕ) (e : 𝔾) → 6 ≤ F → inRectangle F e ≡ true → Rectangle F e
-unfolding inRectangle
-rectangle-says F e wide t =
-    let h = box-says t in
-    record {
-      re-lo = lin (two F ∷ two (F - 6) ∷ e .re ∷ []) (two-whole 6 F wide &≡ h .re-lo & none) (search reify depth 20) tt;
-      re-hi = lin (two F ∷ two (F - 6) ∷ e .re ∷ []) (two-whole 6 F wide &≡ h .re-hi & none) (search reify depth 20) tt;
-      im-lo = lin (two F ∷ two (F - 6) ∷ e .im ∷ []) (two-whole 6 F wide &≡ h .im-lo & none) (search reify depth 20) tt;
-      im-hi = lin (two F ∷ two (F - 6) ∷ e .im ∷ []) (two-whole 6 F wide &≡ h .im-hi & none) (search reify depth 20) tt;
-    }
 
 -- ---- when each answer is given
 -- an input that meets no refusal
 pub record Accepted (F : ℕ) (n : ℤ) (e s : 𝔾) : Type 0 where
   pub steps : inSteps F 1 n ≡ true
-  pub rectangle : inRectangle F e ≡ true
+  pub reach : inReach F e ≡ true
   pub start : inParts F s ≡ true
 
-module _ (F : ℕ) (t : StepTable) (n : ℤ) (e s : 𝔾) where
-  pub refused-steps : inSteps F 1 n ≡ false → answer F t n e s ≡ Refused Steps
+module _ (F : ℕ) (t : StepTable) (c : Constants) (n : ℤ) (e s : 𝔾) where
+  pub refused-steps : inSteps F 1 n ≡ false → answer F t c n e s ≡ Refused Steps
   unfolding answer
   refused-steps a = rw a
 
-  pub refused-exponent : inSteps F 1 n ≡ true → inRectangle F e ≡ false → answer F t n e s ≡ Refused Exponent
+  pub refused-exponent : inSteps F 1 n ≡ true → inReach F e ≡ false → answer F t c n e s ≡ Refused Exponent
   unfolding answer
   refused-exponent a b = rw (a, b)
 
-  pub refused-part : inSteps F 1 n ≡ true → inRectangle F e ≡ true → inParts F s ≡ false → answer F t n e s ≡ Refused Part
+  pub refused-part : inSteps F 1 n ≡ true → inReach F e ≡ true → inParts F s ≡ false → answer F t c n e s ≡ Refused Part
   unfolding answer
-  refused-part a b c = rw (a, b, c)
+  refused-part a b d = rw (a, b, d)
 
-  pub answered : Accepted F n e s → answer F t n e s ≡ Answered (figures F t (natAbs n) e s)
+  pub answered : Accepted F n e s → answer F t c n e s ≡ Answered (figures F t c (natAbs n) e s)
   unfolding answer
-  answered a = rw (a .steps, a .rectangle, a .start)
+  answered a = rw (a .steps, a .reach, a .start)
 
-module _ (F : ℕ) (wide : 16 ≤ F) (narrow : F ≤ 48) (t : StepTable) (promise : StepPromise F (F - 8) t) where
+module _ (F : ℕ) (wide : 16 ≤ F) (narrow : F ≤ 48) (t : StepTable) (table : StepPromise F (F - 8) t)
+    (c : Constants) (promise : ConstantsPromise F c) where
   room : F - 8 + 8 ≤ F
   room = omega arith
 
   -- "after n steps, each exponent part is below 1/2^n in size"
-  pub exponent-below : (e s : 𝔾) → inRectangle F e ≡ true → (n : ℕ) → n ≤ F - 8 → Below (gauss (ended F t n e s .sum)) (two (F - n))
-  exponent-below e s r n h = converges F (F - 8) wide room t promise (state s e) (rectangle-says F e (omega arith) r) n h
+  pub exponent-below : (e s : 𝔾) (n : ℕ) → n ≤ F - 8 → Below (gauss (ended F t c n (reduction F c e s) .sum)) (two (F - n))
+  exponent-below e s n h = let r = reduction F c e s in
+      converges F (F - 8) wide room t table (state (gauss (r .start)) (gauss (r .exponent))) (given-rectangle F (omega arith) c promise e s) n h
 
-  -- the error is within the bound
-  pub close-at : {n : ℤ} {e s : 𝔾} → Accepted F n e s → (T : ℕ) → 24 ≤ T →
-      CloseAt F (natAbs n) T e s (gauss (ended F t (natAbs n) e s .point))
-  close-at {n} {e} {s} a T long = let p = parts-abs (two (natAbs n)) off small in record { re = p .0; im = p .1 }
+  -- ---- the error is within the bound
+  module _ (n T : ℕ) (e s : 𝔾) (least : 1 ≤ n) (most : n ≤ F - 8) where
+    abbrev CloseBy : Reduced → Type 0
+    CloseBy r = CloseAt F n T (r .«binary_exponent») e s (gauss (r .start)) (gauss (ended F t c n r .point))
+
+    close-parts : (k : ℤ) (s₁ a : 𝔾) → Parts (twoᵍ n *ᵍ miss F T k e s a) (allowed F n T k (larger s₁)) → CloseAt F n T k e s s₁ a
+    close-parts k s₁ a h = let p = parts-abs (two n) (miss F T k e s a) h in record { re = p .0; im = p .1 }
+
+    pub close-inside : Rectangle F e → 24 ≤ T → CloseBy (unreduced e s)
+    close-inside rect long = close-parts (pos 0) s a (subst (λ z. Parts (twoᵍ n *ᵍ z) (allowed F n T (pos 0) (larger s))) point
+        (parts-weaken (exp-error F (F - 8) wide room t table e rect s (larger s) (larger-parts s) T long n least most (omega arith))
+        (lin (larger s ∷ pos n ∷ two n ∷ Dᶻ (2 ^ F) T ∷ []) none (search reify depth 20) tt)))
+      where
+        a : 𝔾
+        a = gauss (ended F t c n (unreduced e s) .point)
+
+        point : a *ᵍ Dᵍ (2 ^ F) T -ᵍ s *ᵍ Sᵍ (2 ^ F) T e ≡ miss F T (pos 0) e s a
+        point = ring! 𝔾R (a ∷ Dᵍ (2 ^ F) T ∷ s ∷ Sᵍ (2 ^ F) T e ∷ []) (search reifyᵍ depth 20) tt
+
+    pub close-outside : Parts e (pos 8 *ℤ two F) → 80 ≤ T → CloseBy (reduced c e s)
+    close-outside far long = close-parts (r .«binary_exponent») (gauss (r .start)) (gauss (ended F t c n r .point))
+        (far-error F (F - 8) wide narrow room t table c promise e far s (larger (gauss (r .start))) (larger-parts (gauss (r .start)))
+        T long n least most (omega arith))
+      where
+        r : Reduced
+        r = reduced c e s
+
+  pub close-for : {n : ℤ} {e s : 𝔾} → Accepted F n e s → CloseFor F c (natAbs n) e s (figures F t c (natAbs n) e s)
+  close-for {n} {e} {s} a T = by-rectangle (λ b r. cond b 24 80 ≤ T → CloseBy (natAbs n) T e s (count .at-least) (count .at-most) r) F c e s
+      (λ h long. close-inside (natAbs n) T e s (count .at-least) (count .at-most) (rectangle-says F e (omega arith) h) long)
+      (λ _ long. close-outside (natAbs n) T e s (count .at-least) (count .at-most) (reach-says F e (a .reach)) long)
     where
-      off : 𝔾
-      off = miss F T e s (gauss (ended F t (natAbs n) e s .point))
-
       count : Counts F 1 n
       count = steps-say F 1 n (a .steps)
 
-      small : Parts (twoᵍ (natAbs n) *ᵍ off) (allowed F (natAbs n) T s)
-      small = exp-error F (F - 8) wide room t promise e (rectangle-says F e (omega arith) (a .rectangle)) s (larger s)
-          (larger-parts s) T long
-          (natAbs n) (count .at-least) (count .at-most) (omega (arith, count .at-most))
+-- so the error bound bounds the error, in units times 2^k
+module _ (F n T : ℕ) (k : ℤ) (e s s₁ a : 𝔾) (close : CloseAt F n T k e s s₁ a) where
+  bounded : (x : ℤ) → abs x *ℤ two n ⩽ allowed F n T k (larger s₁) → abs x ⩽ errorBound n s₁ *ℤ two (up k) *ℤ Dᶻ (2 ^ F) T
+  bounded x h = le-cancel (two n) (two≥1 n)
+      (lin (two n ∷ pos n ∷ abs x ∷ larger s₁ ∷ errorBound n s₁ ∷ two (up k) ∷ Dᶻ (2 ^ F) T ∷ [])
+      (h & nonneg-mul (sub-nonneg (bound-enough n s₁)) (nonneg-mul (nonneg-pos (2 ^ up k)) (nonneg-pos (D (2 ^ F) T))) & none)
+      (search reify depth 20 fits 4000) tt)
 
--- so the error bound bounds the error, in units
-module _ (F n T : ℕ) (e s a : 𝔾) (close : CloseAt F n T e s a) where
-  bounded : (x : ℤ) → abs x *ℤ two n ⩽ allowed F n T s → abs x ⩽ errorBound n s *ℤ Dᶻ (2 ^ F) T
-  bounded x h = le-cancel (two n) (two≥1 n) (lin (two n ∷ pos n ∷ abs x ∷ larger s ∷ errorBound n s ∷ Dᶻ (2 ^ F) T ∷ [])
-      (h & nonneg-mul (sub-nonneg (bound-enough n s)) (nonneg-pos (D (2 ^ F) T)) & none) (search reify depth 20) tt)
+  pub error-re : abs (miss F T k e s a .re) ⩽ errorBound n s₁ *ℤ two (up k) *ℤ Dᶻ (2 ^ F) T
+  error-re = bounded (miss F T k e s a .re) (close .re)
 
-  pub error-re : abs (miss F T e s a .re) ⩽ errorBound n s *ℤ Dᶻ (2 ^ F) T
-  error-re = bounded (miss F T e s a .re) (close .re)
-
-  pub error-im : abs (miss F T e s a .im) ⩽ errorBound n s *ℤ Dᶻ (2 ^ F) T
-  error-im = bounded (miss F T e s a .im) (close .im)
+  pub error-im : abs (miss F T k e s a .im) ⩽ errorBound n s₁ *ℤ two (up k) *ℤ Dᶻ (2 ^ F) T
+  error-im = bounded (miss F T k e s a .im) (close .im)
 
 -- THE ANSWER IS CLOSE, for all inputs of the call
 pub exp-close : (n ex ey sx sy : ℤ) → Close n ex ey sx sy (expAnswer n ex ey sx sy)
 unfolding expAnswer answer
 exp-close n ex ey sx sy =
     unless-keeps P (inSteps 48 1 n) Steps _ tt
-    (λ a. unless-keeps P (inRectangle 48 (gi ex ey)) Exponent _ tt
+    (λ a. unless-keeps P (inReach 48 (gi ex ey)) Exponent _ tt
     (λ b. unless-keeps P (inParts 48 (gi sx sy)) Part _ tt
-    (λ c. close-at 48 (omega arith) (omega arith) stepTable step-promise (record { steps = a; rectangle = b; start = c }))))
+    (λ d. close-for 48 (omega arith) (omega arith) stepTable step-promise constants48 constants-promise
+    (record { steps = a; reach = b; start = d }))))
   where
     P : Answer → Type 0
     P = Close n ex ey sx sy
 
 -- so what equals it meets both clauses of the call
-pub settled : (n ex ey sx sy : ℤ) {r : Answer} → answer 48 stepTable n (gi ex ey) (gi sx sy) ≡ r →
+pub settled : (n ex ey sx sy : ℤ) {r : Answer} → answer 48 stepTable constants48 n (gi ex ey) (gi sx sy) ≡ r →
     (r ≡ expAnswer n ex ey sx sy) × Close n ex ey sx sy r
 unfolding expAnswer
 settled n ex ey sx sy p = (sym p, subst (λ a. Close n ex ey sx sy a) p (exp-close n ex ey sx sy))

@@ -26,16 +26,16 @@ use Rattle.iteration.proofs.Drift.{exact-start, exact-run, exact-size}
 use Rattle.exponential.specs.Answer.{rounding-share, errorBound}
 use Rattle.exponential.proofs.Convergence.{Rectangle, below-parts, converges}
 
--- ---- the run: a start of parts up to 2^58 grows to 1089/280 of it, and the rounding; the exponent stays below one
+-- ---- the run: a start of parts up to 2^59 grows to 1089/280 of it, and the rounding; the exponent stays below one
 module _ (F : ℕ) (wide : 16 ≤ F) (narrow : F ≤ 48) (t : StepTable) (promise : StepPromise F (F - 8) t) where
-  pub run-fits : (n : ℕ) (e s : 𝔾) → n ≤ F - 8 → Rectangle F e → Parts s (two (F + 10)) → Fits F t Exp 0 n (state s e)
+  pub run-fits : (n : ℕ) (e s : 𝔾) → n ≤ F - 8 → Rectangle F e → Parts s (two (F + 11)) → Fits F t Exp 0 n (state s e)
   run-fits n e s h rect given = record {
     least = omega arith;
     most = omega arith;
     small = λ j l. record {
       point = parts-cancel (pos 280) (record { le = tt })
           (parts-weaken (exact-size (exact-run F t Exp 0 j j (state s e) (omega arith) exact-start) given)
-          (lin (pos j ∷ two (F + 10) ∷ []) (few j l &ℕ two-mono (F + 10) 58 (omega arith) & none) (search reify depth 20) tt));
+          (lin (pos j ∷ two (F + 11) ∷ []) (few j l &ℕ two-mono (F + 11) 59 (omega arith) & none) (search reify depth 20) tt));
       sum = parts-weaken (below-parts (converges F (F - 8) wide (omega arith) t promise (state s e) rect j (omega arith)))
           (two-mono (F - j) 61 (omega arith));
     };
@@ -46,22 +46,22 @@ module _ (F : ℕ) (wide : 16 ≤ F) (narrow : F ≤ 48) (t : StepTable) (promis
 
 -- ---- the error bound, M being m
 pub record BoundFits (n : ℕ) (m : ℤ) : Type 0 where
-  pub up : CeilingFits (negsuc 7) m (pos 8 *ℤ two 58) n
+  pub up : CeilingFits (negsuc 7) m (pos 8 *ℤ two 59) n
   pub share : SFits w64 (rounding-share *ℤ pos n)
   pub bound : SFits w64 (rounding-share *ℤ pos n -ℤ shrZ (negsuc 7 *ℤ m) (2 ^ n))
 
-pub bound-fits : (F n : ℕ) {s : 𝔾} → F ≤ 48 → n ≤ F - 8 → Parts s (two (F + 10)) → BoundFits n (larger s)
+pub bound-fits : (F n : ℕ) {s : 𝔾} → F ≤ 48 → n ≤ F - 8 → Parts s (two (F + 11)) → BoundFits n (larger s)
 bound-fits F n {s} narrow h given = record {
   up = up;
   share = sfits-size share tt;
   bound = sfits-size (size-add share (size-neg (up .size))) tt;
 }
   where
-    up : CeilingFits (negsuc 7) (larger s) (pos 8 *ℤ two 58) n
-    up = ceiling-fits {c = negsuc 7} {a = pos 8} {b = two 58} n (record { lo = record { le = tt }; hi = record { le = tt } })
+    up : CeilingFits (negsuc 7) (larger s) (pos 8 *ℤ two 59) n
+    up = ceiling-fits {c = negsuc 7} {a = pos 8} {b = two 59} n (record { lo = record { le = tt }; hi = record { le = tt } })
         (record {
           lo = lin (larger s ∷ []) (size-sign (larger-parts s .re) & none) (search reify depth 20) tt;
-          hi = larger-le (parts-weaken given (two-mono (F + 10) 58 (omega arith)));
+          hi = larger-le (parts-weaken given (two-mono (F + 11) 59 (omega arith)));
         }) tt tt
 
     few : n ≤ 40

@@ -1,4 +1,4 @@
-// EXP: a start times the exponential of a number in a rectangle, by shifts and additions.
+// EXP: a start times the exponential of a number, by shifts and additions in a rectangle; outside it, up to eight, after a reduction.
 ghost use mathlib.Core.Path.{_≡_};
 ghost use Prim.Native.Nat.{_≤_};
 ghost use Rattle.algebra.specs.Size.{Size, Parts, abs, larger};
@@ -12,9 +12,11 @@ use iteration::Mode;
 use iteration::State;
 use point::Point;
 
+mod reduction;
+
 // The absolute value.
 fn size(x: i64) -> i64
-    requires { ⌜ Size x (two 58) ⌝ }
+    requires { ⌜ Size x (two 59) ⌝ }
     ensures { λ r. ⌜ r ≡ abs x ⌝ }
 {
     if x < 0 { -x } else { x }
@@ -22,7 +24,7 @@ fn size(x: i64) -> i64
 
 // The larger part in size.
 fn larger_part(p: Point) -> i64
-    requires { ⌜ Parts (gauss p) (two 58) ⌝ }
+    requires { ⌜ Parts (gauss p) (two 59) ⌝ }
     ensures { λ r. ⌜ r ≡ larger (gauss p) ⌝ }
 {
     let x = p.x;
@@ -32,10 +34,10 @@ fn larger_part(p: Point) -> i64
     if b < a { a } else { b }
 }
 
-// 8 M / 2^n rounded up, plus 2 n: M is the start's larger part in size.
+// 8 M / 2^n rounded up, plus 2 n: M is the larger part in size of the start that the steps are given.
 fn error_bound(n: usize, s: Point) -> i64
     requires { ⌜ n ≤ 40 ⌝ }
-    requires { ⌜ Parts (gauss s) (two 58) ⌝ }
+    requires { ⌜ Parts (gauss s) (two 59) ⌝ }
     ensures { λ r. ⌜ r ≡ errorBound n (gauss s) ⌝ }
 {
     let m = larger_part(s);
@@ -44,7 +46,7 @@ fn error_bound(n: usize, s: Point) -> i64
     share - down
 }
 
-// The start times the exponential of the exponent, by n steps.
+// The start times the exponential of the exponent, by n steps: value times 2^binary_exponent.
 pub fn exp(n: i64, exponent: Point, start: Point) -> Answer
     ensures answer { λ r. ⌜ r ≡ expAnswer n (exponent .x) (exponent .y) (start .x) (start .y) ⌝ }
     ensures close { λ r. ⌜ Close n (exponent .x) (exponent .y) (start .x) (start .y) r ⌝ }
@@ -52,32 +54,26 @@ pub fn exp(n: i64, exponent: Point, start: Point) -> Answer
     if !point::is_between(1, 40, n) {
         return Answer::Refused(Refusal::Steps);
     }
-    if !exponent.is_in_box(
-        -233096465088512,
-        241892558110720,
-        -206708186021888,
-        206708186021888,
-    ) {
+    if !reduction::is_in_reach(exponent) {
         return Answer::Refused(Refusal::Exponent);
     }
     if !start.is_in_parts() {
         return Answer::Refused(Refusal::Part);
     }
     let steps = n as usize;
-    let end = iteration::run(
-        Mode::Exp,
-        0,
-        steps,
-        State {
-            point: start,
-            sum: exponent,
-        },
-    );
-    let value = end.point;
-    let error_bound = error_bound(steps, start);
+    let given = reduction::reduce(exponent, start);
+    let s = given.start;
+    let e = given.exponent;
+    let end = iteration::run(Mode::Exp, 0, steps, State { point: s, sum: e });
+    let last = end.point;
+    // part by part, so that nothing is copied in between
+    let x = last.x;
+    let y = last.y;
+    let binary_exponent = given.binary_exponent;
+    let error_bound = error_bound(steps, s);
     Answer::Answered(Figures {
-        value,
-        binary_exponent: 0,
+        value: Point { x, y },
+        binary_exponent,
         quadrant: 0,
         error_bound,
     })

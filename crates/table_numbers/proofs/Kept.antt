@@ -1,6 +1,6 @@
--- The promise of a table at any width, from one computed test over it.
+-- The promise of a table and of the constants at any width, from one computed test over it.
 use mathlib.Core.Bool.{Bool, _&&_}
-use mathlib.Core.List.{List, [], _∷_}
+use mathlib.Core.List.{List, [], _∷_, _++_}
 use Prim.Native.Nat.{ℕ, zero, suc, _-_, _^_}
 use native.Mathlib.Nat.{not-suc-le-zero}
 use lib.Dec.{T}
@@ -12,8 +12,8 @@ use Rattle.algebra.proofs.Order.{nonneg-mul, nonneg-pos}
 use Rattle.point.proofs.Digits.{nine, nine-at}
 use Rattle.table_numbers.specs.Window.{Span, Lies, pick, real, imag}
 use Rattle.table_numbers.specs.Reciprocal.{reciprocal, centre, InTable}
-use Rattle.table_numbers.specs.Promise.{StepTable, StepEntry, ReciprocalTable, ReciprocalEntry, look}
-use Rattle.table_numbers.proofs.Promises.{StepPromise, ReciprocalPromise}
+use Rattle.table_numbers.specs.Promise.{StepTable, StepEntry, ReciprocalTable, ReciprocalEntry, look, Constants}
+use Rattle.table_numbers.proofs.Promises.{StepPromise, ReciprocalPromise, Move, Tied, eighth, quarter, quarter-back, doubling, halving, ConstantsPromise}
 use Rattle.table_numbers.proofs.RuleTest.{rule-facts, rule-holds}
 
 -- ---- the step table: the rule and the two windows at each n and d
@@ -94,3 +94,44 @@ module _ (F : ℕ) (t : ReciprocalTable) where
 
   pub reciprocals-kept : T (cells reciprocal-test) → ReciprocalPromise F t
   reciprocals-kept p column row i = reciprocal-said column row (cells-at reciprocal-test p column row i)
+
+-- ---- the constants: the rule of each move, and the sizes
+module _ (F : ℕ) where
+  abbrev move-facts : Move → List (ℤ × ℤ)
+  move-facts v = rule-facts F (v .m) (v .c) (v .w)
+
+  move-said : (v : Move) → Les (move-facts v) → Tied F v
+  move-said v = rule-holds F (v .m) (v .c) (v .w)
+
+  module _ (k : Constants) where
+    abbrev span-facts : List (ℤ × ℤ)
+    span-facts =
+        (pos 78 *ℤ two F, pos 100 *ℤ pos (k .quarter-pi)) ∷ (pos 100 *ℤ pos (k .quarter-pi), pos 79 *ℤ two F)
+        ∷ (pos 69 *ℤ two F, pos 100 *ℤ pos (k .ln-2)) ∷ (pos 100 *ℤ pos (k .ln-2), pos 70 *ℤ two F)
+        ∷ (pos 100 *ℤ pos (k .half-ln-2), pos 35 *ℤ two F) ∷ []
+
+    abbrev constant-facts : List (ℤ × ℤ)
+    constant-facts = move-facts (eighth k) ++ move-facts (quarter k) ++ move-facts (quarter-back k) ++ move-facts (doubling k)
+        ++ move-facts (halving k) ++ span-facts
+
+    unfoldable pub constants-test : Bool
+    constants-test = les constant-facts
+
+    pub constants-kept : T constants-test → ConstantsPromise F k
+    unfolding constants-test
+    constants-kept p = said (les-say constant-facts p)
+      where
+        said : Les constant-facts → ConstantsPromise F k
+        said (a₁, (a₂, (a₃, (b₁, (b₂, (b₃, (c₁, (c₂, (c₃, (d₁, (d₂, (d₃, (e₁, (e₂, (e₃, (q₁, (q₂, (l₁, (l₂, (h, _))))))))))))))))))))
+            = record {
+              eighths = move-said (eighth k) (a₁, (a₂, (a₃, tt)));
+              quarters = move-said (quarter k) (b₁, (b₂, (b₃, tt)));
+              quarters-back = move-said (quarter-back k) (c₁, (c₂, (c₃, tt)));
+              doubles = move-said (doubling k) (d₁, (d₂, (d₃, tt)));
+              halves = move-said (halving k) (e₁, (e₂, (e₃, tt)));
+              quarter-pi-low = q₁;
+              quarter-pi-high = q₂;
+              ln-2-low = l₁;
+              ln-2-high = l₂;
+              half-ln-2-high = h;
+            }

@@ -1,4 +1,4 @@
--- The tables at the width 48 keep the promise, and the stored reciprocals are those of the formula.
+-- The tables and the constants at the width 48 keep the promise, and the stored reciprocals are those of the formula.
 use mathlib.Core.Path.{_≡_}
 use mathlib.Core.Bool.{Bool}
 use mathlib.Core.List.{List, [], _∷_}
@@ -14,11 +14,11 @@ use Rattle.word.specs.Compare.{between}
 use Rattle.series.specs.Series.{D}
 use Rattle.table_numbers.specs.Reciprocal.{reciprocal, centre, InTable}
 use Rattle.table_numbers.specs.Cell.{cellOf}
-use Rattle.table_numbers.specs.Numbers48.{stepLogs, reciprocalLogs}
+use Rattle.table_numbers.specs.Numbers48.{stepLogs, reciprocalLogs, constants48}
 use Rattle.table_numbers.specs.Reciprocals.{reciprocals}
 use Rattle.table_numbers.specs.Table.{stepTable, reciprocalTable}
-use Rattle.table_numbers.proofs.Promises.{StepPromise, ReciprocalPromise}
-use Rattle.table_numbers.proofs.Kept.{step-test, steps-test, steps-kept, cells, cells-at, reciprocal-test, reciprocals-kept}
+use Rattle.table_numbers.proofs.Promises.{StepPromise, ReciprocalPromise, ConstantsPromise}
+use Rattle.table_numbers.proofs.Kept.{step-test, steps-test, steps-kept, cells, cells-at, reciprocal-test, reciprocals-kept, constants-test, constants-kept}
 use Rattle.table_numbers.proofs.TableLaws.{storedReciprocal}
 
 -- ---- the promise
@@ -35,6 +35,13 @@ logs-48 = tt
 
 pub reciprocal-promise : ReciprocalPromise 48 reciprocalTable
 reciprocal-promise = reciprocals-kept 48 reciprocalTable logs-48
+
+kept-48 : T (constants-test 48 constants48)
+unfolding constants-test constants48 D _+ᵍ_ _*ᵍ_ negᵍ ιᵍ abs
+kept-48 = tt
+
+pub constants-promise : ConstantsPromise 48 constants48
+constants-promise = constants-kept 48 constants48 kept-48
 
 -- ---- the stored reciprocals are those of the formula
 abbrev same-facts : 𝔾 → 𝔾 → List (ℤ × ℤ)

@@ -1,8 +1,9 @@
--- The two tables of logarithms at the width 48, each part as the nearest whole number of units of 1/2^48. Made by tests/tables/generate.py.
+-- The tables of logarithms and the constants at the width 48, each number as the nearest unit of 1/2^48. Made by tests/tables/generate.py.
 use mathlib.Core.List.{List, [], _∷_}
 use lib.IntN.{pos}
 use Rattle.algebra.specs.Gauss.{𝔾, gi}
 use Rattle.table_numbers.specs.Listed.{neg}
+use Rattle.table_numbers.specs.Promise.{Constants}
 
 -- ln(1 + d/2^n): for each n from 1 to 40 three rows by dx, each of three entries by dy, from −1 to 1 (01, The step)
 unfoldable pub stepLogs : List (List (List 𝔾))
@@ -261,3 +262,7 @@ reciprocalLogs =
     gi (neg 49913128358235) (neg 180079184721306) ∷ gi (neg 62671954021034) (neg 189922690998101) ∷ gi (neg 67639354050048) (neg 201280419400490) ∷
     gi (neg 80365786634193) (neg 212793639888450) ∷ gi (neg 88890341346011) (neg 221069929750889) ∷ [])
     ∷ []
+
+-- the constants of EXP's reduction (02, E5)
+unfoldable pub constants48 : Constants
+constants48 = record { quarter-pi = 221069929750889; ln-2 = 195103586505167; half-ln-2 = 97551793252584 }

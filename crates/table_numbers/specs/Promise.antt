@@ -34,3 +34,9 @@ ReciprocalTable = ℤ → ℤ → 𝔾
 pub record ReciprocalEntry (F : ℕ) (c z : 𝔾) : Type 0 where
   pub rule : (T : ℕ) → 24 ≤ T → Rule F T 64 c z
   pub size : Within (ιᵍ (pos 8) *ᵍ z) (pos 9 *ℤ two F)
+
+-- ---- the constants of EXP's reduction (02, E5), in units: "Q and H the units nearest π/4 and ln 2", and "the units nearest ½·ln 2"
+pub record Constants : Type 0 where
+  pub quarter-pi : ℕ
+  pub ln-2 : ℕ
+  pub half-ln-2 : ℕ

@@ -76,9 +76,9 @@ short-span k (negsuc n) {lo} l h s t = omega (arith, short k (suc n) (ltb→lt (
         (search reify depth 20) tt
 
 -- ---- the figures of each kind, from N on
--- N, two parts, the error bound
+-- N, two parts, k, the error bound
 abbrev pub expWidths : List ℕ
-expWidths = 2 ∷ 20 ∷ 20 ∷ 19 ∷ []
+expWidths = 2 ∷ 20 ∷ 20 ∷ 3 ∷ 19 ∷ []
 
 -- N, two parts, k, q, the error bound
 abbrev pub logWidths : List ℕ
@@ -99,6 +99,7 @@ exp-widths n (Answered f) r =
     short-span 0 n (r .steps-low) (r .steps-high) tt tt
     and short-span 18 (f .value .x) (r .value .re .lo) (r .value .re .hi) tt tt
     and short-span 18 (f .value .y) (r .value .im .lo) (r .value .im .hi) tt tt
+    and short-span 1 (f .«binary_exponent») (r .exponent .lo) (r .exponent .hi) tt tt
     and short-span 17 (f .«error_bound») (r .bound-low) (r .bound-high) tt tt
     and end
 exp-widths n (Refused r) h = tt

@@ -15,14 +15,15 @@ use Rattle.text.specs.Line.{EXP, LOG, REF, readLine}
 use Rattle.text.specs.declared.Kind.the-variants as kind
 use Rattle.text.specs.declared.Line.the-variants as line
 
--- ---- an answer of either kind, out of its record: "kernel number, kind, N, the two parts, for LOG k and q, then the column"
+-- ---- an answer of either kind, out of its record: "kernel number, kind, N, the two parts, for LOG k and q, then the column"; 02, E5: "k
+-- stands before the column on every EXP line"
 abbrev pub wordOf : Kind → List ℕ
 wordOf kind.Exp = EXP
 wordOf kind.Log = LOG
 
 -- THE FIELDS from N on
 abbrev pub fieldsOf : Kind → ℤ → List ℤ → List ℤ
-fieldsOf kind.Exp n r = n ∷ re-in r ∷ im-in r ∷ error-bound-in r ∷ []
+fieldsOf kind.Exp n r = n ∷ re-in r ∷ im-in r ∷ binary-exponent-in r ∷ error-bound-in r ∷ []
 fieldsOf kind.Log n r = n ∷ re-in r ∷ im-in r ∷ binary-exponent-in r ∷ quadrant-in r ∷ error-bound-in r ∷ []
 
 -- ---- what a line is answered: the refusal number or 0, and the bytes

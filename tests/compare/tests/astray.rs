@@ -1,11 +1,17 @@
-//! 01, Where a step goes astray, and a step that does not round as 02, E1 says: the product against
-//! the second implementation with one fault put in, on inputs at which the fault shows.
+//! 01, Where a step goes astray, a step that does not round as 02, E1 says, and a reduction that is
+//! not that of 02, E5: the product against the second implementation with one fault put in, on
+//! inputs at which the fault shows.
 
 use compare::{numbers, observed};
-use reference::edges::{EXP, EY_GREATEST, ONE};
-use reference::exponential::{self, Input as Exp, CUT};
+use reference::answer::{record, Figures};
+use reference::edges::{EXP, EX_GREATEST, EY_GREATEST, H, ONE, Q};
+use reference::exponential::{
+    self, in_rectangle, nearest_multiple, Input as Exp, Reduction, CUT, FACTORS,
+};
 use reference::logarithm::{self, Input as Log};
-use reference::point::{floor_quotient, nearest_quotient, point, Digit, Point, Quotient};
+use reference::point::{
+    ceiling_quotient, floor_quotient, nearest_quotient, point, word, Digit, Point, Quotient,
+};
 use reference::samples::{exp_input, log_input, Random};
 use reference::tables::{cell_xs, cell_ys, reciprocal, tables};
 use reference::width::WIDTH_48 as W;
@@ -30,6 +36,20 @@ enum Fault {
     HalfLost,
     /// Equation 3.10 of 004: a minus before the squares.
     MinusSquares,
+    /// EXP's reduction inside the rectangle, too.
+    ReducedInside,
+    /// p by floor, without the half.
+    EighthsFloor,
+    /// An odd p below zero taken for an even one.
+    OddCut,
+    /// The factor by the size of the remainder that a cut division leaves.
+    FactorCut,
+    /// k before ex has lost the half of ln 2.
+    DoublingsFirst,
+    /// k with the other sign.
+    DoublingsSign,
+    /// M of the given start.
+    GivenLarger,
 }
 
 use Fault::*;
@@ -83,14 +103,49 @@ impl Fault {
         }
     }
 
-    fn exp(self, input: Exp) -> Point {
-        let (mut exponent, mut start) = (input.exponent(), input.start());
-        for n in 1..=input.n as u32 {
+    fn reduction(self, input: Exp) -> Reduction {
+        let exponent = input.exponent();
+        if self != ReducedInside && in_rectangle(exponent, W) {
+            return input.unreduced();
+        }
+        let (Point { x: r, y: q }, h) = (tables(W).log_of_one_plus_i, tables(W).log_of_two.x);
+        let p = match self {
+            EighthsFloor => exponent.y.div_euclid(q),
+            _ => nearest_multiple(exponent.y, q),
+        };
+        let odd = if self == OddCut { p % 2 } else { p.rem_euclid(2) };
+        let lost = if odd == 1 { r } else { 0 };
+        let place = if self == FactorCut { (p % 8).abs() } else { p.rem_euclid(8) };
+        let (x, y) = FACTORS[place as usize];
+        let k = match self {
+            DoublingsFirst => nearest_multiple(exponent.x, h),
+            _ => nearest_multiple(exponent.x - lost, h),
+        };
+        Reduction {
+            exponent: exponent - point(lost + k * h, p * q),
+            start: input.start().times(point(x, y)),
+            binary_exponent: word(if self == DoublingsSign { -k } else { k }),
+        }
+    }
+
+    fn exp(self, input: Exp) -> [i64; 6] {
+        let Reduction { mut exponent, mut start, binary_exponent } = self.reduction(input);
+        let measured = if self == GivenLarger { input.start() } else { start };
+        let count = input.n as u32;
+        for n in 1..=count {
             let digit = exponential::digit(exponent, n, CUT, W);
             exponent = exponent - self.entry(digit, n);
             start = self.step(start, digit, n);
         }
-        start
+        let error_bound =
+            ceiling_quotient(8 * measured.larger_part(), count) + 2 * i128::from(count);
+        record(Ok(Figures {
+            x: word(start.x),
+            y: word(start.y),
+            binary_exponent,
+            quadrant: 0,
+            error_bound: word(error_bound),
+        }))
     }
 
     /// None when the scaled point has no cell, as it may have none by rounding up to one.
@@ -121,18 +176,16 @@ impl Fault {
     }
 }
 
+/// The product's record; none when refused.
+fn product_exp(input: Exp) -> Option<[i64; 6]> {
+    let record = numbers(observed(|out| compare::exp(input, out)));
+    (record[0] == 0).then_some(record)
+}
+
 /// The parts of the product's answer; none when refused.
-fn product(call: impl FnOnce(&mut [u8]) -> i64) -> Option<Point> {
-    let [refusal, x, y, ..] = numbers(observed(call));
-    (refusal == 0).then_some(point(x.into(), y.into()))
-}
-
-fn product_exp(input: Exp) -> Option<Point> {
-    product(|out| compare::exp(input, out))
-}
-
 fn product_log(input: Log) -> Option<Point> {
-    product(|out| compare::log(input, out))
+    let [refusal, x, y, ..] = numbers(observed(|out| compare::log(input, out)));
+    (refusal == 0).then_some(point(x.into(), y.into()))
 }
 
 /// One step by hand.
@@ -153,10 +206,9 @@ fn one_step() {
         (Exp { sx: 4, sy: 4, ..imaginary }, [2, 6], NewX),
         (Exp { sx: ONE, sy: -ONE, ..imaginary }, [3 * ONE / 2, -ONE / 2], NewX),
     ];
-    for (input, [x, y], fault) in cases {
-        let wanted = point(x.into(), y.into());
-        assert_eq!(product_exp(input), Some(wanted), "{input:?}");
-        assert_ne!(fault.exp(input), wanted, "{fault:?} does not show at {input:?}");
+    for (input, parts, fault) in cases {
+        assert_eq!(product_exp(input).unwrap()[1..3], parts, "{input:?}");
+        assert_ne!(fault.exp(input)[1..3], parts, "{fault:?} does not show at {input:?}");
     }
 }
 
@@ -179,6 +231,29 @@ fn every_count_of_steps() {
             // The first step has the digit 1 + i whatever its entry is.
             let shows = n > 1 || !matches!(fault, HalfLost | MinusSquares);
             assert!(!shows || seen != fault.exp(input), "{fault:?} does not show at {input:?}");
+        }
+    }
+}
+
+/// EXP's reduction at every N.
+#[test]
+fn reduction_of_exp() {
+    for n in 1..=40 {
+        let one = Exp { n, ..EXP };
+        for (input, fault) in [
+            (Exp { ex: EX_GREATEST, ..one }, ReducedInside),
+            (Exp { ey: EY_GREATEST, ..one }, ReducedInside),
+            (Exp { ey: Q - 1, ..one }, EighthsFloor),
+            (Exp { ey: -Q, ..one }, OddCut),
+            (Exp { ey: -Q, ..one }, FactorCut),
+            (Exp { ey: -2 * Q, ..one }, FactorCut),
+            (Exp { ey: Q, ..one }, DoublingsFirst),
+            (Exp { ex: 2 * H, ..one }, DoublingsSign),
+            (Exp { ey: Q, sy: ONE, ..one }, GivenLarger),
+        ] {
+            let seen = product_exp(input).unwrap();
+            assert_eq!(seen, Right.exp(input), "{input:?}");
+            assert_ne!(seen, fault.exp(input), "{fault:?} does not show at {input:?}");
         }
     }
 }
@@ -208,7 +283,21 @@ fn scale_of_log() {
 fn random_inputs() {
     const SAMPLES: usize = 100_000;
     let mut random = Random::new(14);
-    for fault in [StepFloor, StepCut, StepHalfDown, NewX, HalfLost, MinusSquares] {
+    for fault in [
+        StepFloor,
+        StepCut,
+        StepHalfDown,
+        NewX,
+        HalfLost,
+        MinusSquares,
+        ReducedInside,
+        EighthsFloor,
+        OddCut,
+        FactorCut,
+        DoublingsFirst,
+        DoublingsSign,
+        GivenLarger,
+    ] {
         let inputs = (0..SAMPLES).map(|_| exp_input(&mut random, W));
         let shown = inputs.filter(|&input| {
             product_exp(input).is_some_and(|seen| {

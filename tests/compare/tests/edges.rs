@@ -1,10 +1,10 @@
-//! The edges and limits of 01 on the product, in the numbers of 01; every record also against
-//! the second implementation.
+//! The edges and limits of 01 and of 02, E5 on the product, in their numbers; every record also
+//! against the second implementation.
 
 use compare::{expected, numbers, observed};
 use reference::edges::{
-    exp_records, exp_refusals, figure_digits, log_bounds, log_one_digits, log_reductions,
-    log_refusals, EXP, LOG, ONE,
+    exp_records, exp_refusals, exp_scales, far_exp_records, figure_digits, log_bounds,
+    log_one_digits, log_reductions, log_refusals, EXP, LOG, ONE,
 };
 use reference::exponential::{self, exp, Input as Exp, CUT};
 use reference::figure::EXPONENT;
@@ -52,8 +52,15 @@ fn limits_of_log() {
 /// Start zero at every N among them.
 #[test]
 fn records_of_exp() {
-    for (input, wanted) in exp_records() {
+    for (input, wanted) in exp_records().into_iter().chain(far_exp_records()) {
         assert_eq!(exp_record(input), wanted, "{input:?}");
+    }
+}
+
+#[test]
+fn scales_of_exp() {
+    for (input, k) in exp_scales() {
+        assert_eq!(exp_record(input)[3], k, "{input:?}");
     }
 }
 

@@ -5,21 +5,25 @@ use reference::exponential::{exp, Input};
 use reference::figure;
 use reference::samples::{exp_input, Random};
 use reference::width::WIDTH_48;
+use std::collections::BTreeMap;
 
 const SAMPLES: usize = 1_500_000;
 
 #[test]
 fn records() {
     let mut random = Random::new(48);
-    let mut met = [0; 4];
+    let (mut met, mut scales) = ([0; 4], BTreeMap::new());
     for _ in 0..SAMPLES {
         let input = exp_input(&mut random, WIDTH_48);
         let wanted = expected(exp(input, WIDTH_48));
         assert_eq!(observed(|out| compare::exp(input, out)), wanted, "{input:?}");
         met[wanted.0 as usize] += 1;
+        *scales.entry(numbers(wanted)[3]).or_insert(0) += 1;
     }
-    println!("answered, then refused by number: {met:?}");
+    println!("answered, then refused by number: {met:?}; by k: {scales:?}");
     assert!(met.iter().all(|&count| count > SAMPLES / 1000));
+    assert!(scales.keys().copied().eq(-12..=12));
+    assert!(scales.values().all(|&count| count > SAMPLES / 1000));
 }
 
 #[test]
@@ -27,6 +31,7 @@ fn buffers() {
     let good = Input { n: 40, ex: -1, ey: 1 << 47, sx: 1 << 58, sy: -5 };
     let inputs = [
         good,
+        Input { ey: -(1 << 51), ..good },
         Input { n: 0, ..good },
         Input { ex: i64::MIN, ..good },
         Input { sx: i64::MIN, ..good },

@@ -59,7 +59,8 @@ fn lengths() {
 /// Each line alone, and all of them on one sheet, where most numbers do not rise.
 #[test]
 fn damage_of_one_byte() {
-    for line in ["1|EXP|40|-7|8|281474976710656|0", "90|LOG|3|-5|288230376151711744"] {
+    let far = "8|EXP|9|2251799813685248|-1000000000000000|3|-5";
+    for line in ["1|EXP|40|-7|8|281474976710656|0", far, "90|LOG|3|-5|288230376151711744"] {
         let damaged = every_damage(&tabs(line));
         damaged.iter().for_each(|line| check_call(line));
         check(&[&damaged.join(&b'\n')]);
@@ -72,7 +73,7 @@ fn between_good_lines() {
     let [first, second] = [1, 2].map(|serial| format!("{serial}|EXP|40|0|0|281474976710656|0"));
     for line in MALFORMED {
         let seen = answers(&[&tabs(&format!("{first}\n{line}\n{second}"))]);
-        let [first, second] = [1, 2].map(|s| format!("{s}|EXP|40|281474976710656|0|2128"));
+        let [first, second] = [1, 2].map(|s| format!("{s}|EXP|40|281474976710656|0|0|2128"));
         assert_eq!(seen, tabs(&format!("BKM|48\n{first}\n0|REF|5\n{second}\n")), "{line:?}");
     }
 }

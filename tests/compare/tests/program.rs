@@ -2,13 +2,25 @@
 
 use compare::program::{answers, check};
 use reference::damage::{not_rising, tabs};
+use reference::edges::{exp_refusals, exp_scales};
 use reference::samples::{line, sheet, Random};
-use reference::sheet::lines;
+use reference::sheet::{lines, write_line, Call, Line};
 use reference::width::WIDTH_48;
 
 #[test]
 fn long_sheet() {
     check(&[&sheet(&mut Random::new(10), 200_000, WIDTH_48)]);
+}
+
+/// The limits of EXP and where its k changes.
+#[test]
+fn edges_of_exp() {
+    let cases = exp_refusals().into_iter().chain(exp_scales());
+    let lines: Vec<_> = (1..)
+        .zip(cases)
+        .map(|(serial, (input, _))| write_line(Line { serial, call: Call::Exp(input) }))
+        .collect();
+    check(&[&lines.join(&b'\n')]);
 }
 
 #[test]

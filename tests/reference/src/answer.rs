@@ -16,8 +16,9 @@ pub enum Refusal {
 pub struct Figures {
     pub x: i64,
     pub y: i64,
-    /// k and q of 01, both 0 for EXP.
+    /// k of 01, and of 02, E5 for EXP.
     pub binary_exponent: i64,
+    /// q of 01, 0 for EXP.
     pub quadrant: i64,
     /// The "column" of 01.
     pub error_bound: i64,

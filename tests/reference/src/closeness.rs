@@ -1,4 +1,4 @@
-//! Demand 3 of 01: how near an answer is to the exact exponential.
+//! Demand 3 of 01, and what 02, E5 makes of it: how near an answer is to the exact exponential.
 
 use crate::answer::Figures;
 use crate::fixed::{Complex, Fixed};
@@ -6,7 +6,8 @@ use crate::point::{point, Point};
 use crate::width::Width;
 use crate::{exponential, logarithm};
 
-/// The larger error of the two parts, for every T from 24 on, and what 01 allows; in units.
+/// The larger error of the two parts, for every T from 24 on (80 for EXP outside the rectangle),
+/// and what is allowed; in units.
 #[derive(Clone, Copy, Debug)]
 pub struct Closeness {
     pub error: Fixed,
@@ -24,31 +25,55 @@ impl Closeness {
     }
 }
 
-const TERMS: u64 = 24;
-
-/// For |z| <= 6/5 the terms from the 24th on add to less than 2^-72.6, and the sum of the
-/// first 24 is off by less than 2^-300: every sum of T >= 24 terms is within 2^-72.
-const TAIL_BITS: u32 = 72;
-
-fn exponential_sum(z: Complex) -> Complex {
-    assert!(z.norm() * Fixed::ratio(25, 0) <= Fixed::ratio(36, 0), "|z| over 6/5");
-    z.exponential(TERMS)
+/// A sum that stands for every longer one: for |z| up to a radius the terms behind it add to less
+/// than 1/2^tail_bits, what the sum itself is off included, which is less than 2^-290.
+pub struct Series {
+    pub terms: u64,
+    /// The square of the radius, in 25ths.
+    norm: i128,
+    pub tail_bits: u32,
 }
 
-/// `larger` is M. Both factors that meet the sum have a length of at most 2M.
-fn closeness(difference: Complex, larger: i128, allowed: Fixed) -> Closeness {
-    let error = difference.larger_part() + Fixed::ratio(2 * larger, TAIL_BITS);
-    Closeness { error, allowed }
+/// For |z| <= 6/5 the terms from the 24th on add to less than 2^-72.6.
+pub const NEAR: Series = Series { terms: 24, norm: 36, tail_bits: 72 };
+
+/// For |z|² <= 128 those from the 80th on to less than 2^-114.6.
+pub const FAR: Series = Series { terms: 80, norm: 25 * 128, tail_bits: 114 };
+
+impl Series {
+    pub fn sum(&self, z: Complex) -> Complex {
+        assert!(z.norm() * Fixed::ratio(25, 0) <= Fixed::ratio(self.norm, 0), "outside the radius");
+        z.exponential(self.terms)
+    }
+
+    /// `larger` is M. Both factors that meet the sum have a length of at most 2M.
+    fn closeness(&self, difference: Complex, larger: i128, allowed: Fixed) -> Closeness {
+        let error = difference.larger_part() + Fixed::ratio(2 * larger, self.tail_bits);
+        Closeness { error, allowed }
+    }
 }
 
-/// The answer less start·exp(exponent), against 8M/2^N + 2N.
+/// The series that an answer of EXP is held to.
+pub fn exp_series(exponent: Point, width: Width) -> Series {
+    if exponential::in_rectangle(exponent, width) {
+        NEAR
+    } else {
+        FAR
+    }
+}
+
+/// 2^k times the answer, less start·exp(exponent), against 8M/2^N + 2N times 2^k; M is the larger
+/// part of the start that the steps run on, which is at least as long as the given one.
 pub fn exp_closeness(input: exponential::Input, figures: Figures, width: Width) -> Closeness {
     let n = input.n as u32;
-    let larger = input.start().larger_part();
-    let exact = whole(input.start()) * exponential_sum(scaled(input.exponent(), width));
+    let series = exp_series(input.exponent(), width);
+    let larger = input.reduction(width).start.larger_part();
+    let exact = whole(input.start()) * series.sum(scaled(input.exponent(), width));
+    let power = power_of_two(figures.binary_exponent);
     let answer = whole(point(figures.x.into(), figures.y.into()));
+    let answer = Complex { re: answer.re * power, im: answer.im * power };
     let allowed = Fixed::ratio(8 * larger, n) + Fixed::ratio(2 * i128::from(n), 0);
-    closeness(answer - exact, larger, allowed)
+    series.closeness(answer - exact, larger, allowed * power)
 }
 
 /// 2^(F+k)·i^q·exp(answer) less the point, against 3M/2^N.
@@ -58,8 +83,17 @@ pub fn log_closeness(input: logarithm::Input, figures: Figures, width: Width) ->
     let power = i64::from(width.fraction_bits) + figures.binary_exponent;
     let factor = point(1 << power, 0).turned(figures.quadrant);
     let answer = point(figures.x.into(), figures.y.into());
-    let exact = whole(factor) * exponential_sum(scaled(answer, width));
-    closeness(exact - whole(input.point()), larger, Fixed::ratio(3 * larger, n))
+    let exact = whole(factor) * NEAR.sum(scaled(answer, width));
+    NEAR.closeness(exact - whole(input.point()), larger, Fixed::ratio(3 * larger, n))
+}
+
+/// 2^k for a k of EXP.
+fn power_of_two(k: i64) -> Fixed {
+    if k < 0 {
+        Fixed::ratio(1, -k as u32)
+    } else {
+        Fixed::ratio(1 << k, 0)
+    }
 }
 
 fn whole(p: Point) -> Complex {

@@ -48,12 +48,13 @@ pub const MALFORMED: [&str; 43] = [
 ];
 
 /// Of the form, and refused by EXP or LOG: the line and its answer.
-pub const REFUSED: [(&str, &str); 12] = [
+pub const REFUSED: [(&str, &str); 13] = [
     ("1|EXP|-5|0|0|0|0", "1|REF|1"),
     ("2|EXP|41|0|0|0|0", "2|REF|1"),
     ("3|LOG|2|1|0", "3|REF|1"),
     ("9999999|LOG|9223372036854775807|0|0", "9999999|REF|1"),
-    ("7|EXP|40|241892558110721|0|0|0", "7|REF|2"),
+    ("7|EXP|40|2251799813685249|0|0|0", "7|REF|2"),
+    ("7|EXP|40|0|-2251799813685249|0|0", "7|REF|2"),
     ("7|EXP|40|-9223372036854775808|0|0|0", "7|REF|2"),
     ("7|EXP|40|0|9223372036854775807|0|0", "7|REF|2"),
     ("7|EXP|40|0|0|288230376151711745|0", "7|REF|3"),
@@ -89,7 +90,7 @@ const NOT_RISING: [&[(&str, &str)]; 9] = [
 pub fn not_rising() -> Vec<(Vec<u8>, Vec<u8>)> {
     let written = |text: &str| {
         let text = text.replace("GOOD", "EXP|40|0|0|281474976710656|0");
-        tabs(&text.replace("DONE", "EXP|40|281474976710656|0|2128"))
+        tabs(&text.replace("DONE", "EXP|40|281474976710656|0|0|2128"))
     };
     let sheet = |lines: &&[(&str, &str)]| {
         let (asked, answers): (Vec<_>, Vec<_>) = lines.iter().copied().unzip();

@@ -1,4 +1,5 @@
-//! The edges and limits of 01 in its own numbers, for any implementation to be held to.
+//! The edges and limits of 01 and of 02, E5 in their own numbers, for any implementation to be
+//! held to.
 
 use crate::exponential::Input as Exp;
 use crate::logarithm::Input as Log;
@@ -15,6 +16,14 @@ pub const LOG: Log = Log { n: 40, x: ONE, y: 0 };
 pub const EX_LEAST: i64 = -233096465088512;
 pub const EX_GREATEST: i64 = 241892558110720;
 pub const EY_GREATEST: i64 = 206708186021888;
+
+/// Eight, the greatest part of an exponent in size.
+pub const MAX_EXPONENT: i64 = 1 << 51;
+
+/// The units nearest π/4, ln 2 and ½·ln 2.
+pub const Q: i64 = 221069929750889;
+pub const H: i64 = 195103586505167;
+pub const R: i64 = 97551793252584;
 
 /// N inside, then N outside: next to the ends, at the ends of the numbers, and such as would be
 /// inside if only some low bits were read.
@@ -37,26 +46,26 @@ pub fn exp_refusals() -> Vec<(Exp, i64)> {
     let mut cases: Vec<_> = outside.iter().map(|&n| (Exp { n, ..EXP }, 1)).collect();
     for n in inside {
         let exp = Exp { n, ..EXP };
-        for ex in [EX_LEAST, 0, EX_GREATEST] {
-            for ey in [-EY_GREATEST, 0, EY_GREATEST] {
-                cases.push((Exp { ex, ey, ..exp }, 0));
-            }
+        let [xs, ys] = [(EX_LEAST, EX_GREATEST), (-EY_GREATEST, EY_GREATEST)]
+            .map(|(low, high)| [-MAX_EXPONENT, low - 1, low, 0, high, high + 1, MAX_EXPONENT]);
+        for (ex, ey) in xs.into_iter().flat_map(|ex| ys.map(|ey| (ex, ey))) {
+            cases.push((Exp { ex, ey, ..exp }, 0));
         }
-        for ex in [EX_LEAST - 1, EX_GREATEST + 1, i64::MIN, i64::MAX] {
-            cases.push((Exp { ex, ..exp }, 2));
-        }
-        for ey in [-EY_GREATEST - 1, EY_GREATEST + 1, i64::MIN, i64::MAX] {
-            cases.push((Exp { ey, ..exp }, 2));
+        for part in [MAX_EXPONENT + 1, -MAX_EXPONENT - 1, i64::MIN, i64::MAX] {
+            cases.push((Exp { ex: part, ..exp }, 2));
+            cases.push((Exp { ey: part, ..exp }, 2));
         }
         for (parts, refusal) in parts().into_iter().zip([0, 3]) {
             for part in parts {
-                cases.push((Exp { sx: part, ..exp }, refusal));
-                cases.push((Exp { sx: 0, sy: part, ..exp }, refusal));
+                for ey in [0, Q, MAX_EXPONENT] {
+                    cases.push((Exp { ey, sx: part, ..exp }, refusal));
+                    cases.push((Exp { ey, sx: 0, sy: part, ..exp }, refusal));
+                }
             }
         }
     }
     for (n, bad_n) in [(40, false), (0, true)] {
-        for (ey, bad_exponent) in [(0, false), (EY_GREATEST + 1, true)] {
+        for (ey, bad_exponent) in [(0, false), (MAX_EXPONENT + 1, true)] {
             for (sy, bad_start) in [(0, false), (i64::MIN, true)] {
                 let first = [bad_n, bad_exponent, bad_start].iter().position(|&bad| bad);
                 cases.push((Exp { n, ey, sy, ..EXP }, first.map_or(0, |place| place as i64 + 1)));
@@ -116,13 +125,73 @@ pub fn exp_records() -> Vec<(Exp, [i64; 6])> {
     cases
 }
 
-/// The columns of LOG likewise.
+/// The start times 1, 1+i, i, -1+i, -1, -1-i, -i or 1-i.
+fn multiplied(eighths: i64, x: i64, y: i64) -> [i64; 2] {
+    match eighths.rem_euclid(8) {
+        0 => [x, y],
+        1 => [x - y, x + y],
+        2 => [-y, x],
+        3 => [-x - y, x - y],
+        4 => [-x, -y],
+        5 => [y - x, -x - y],
+        6 => [y, -x],
+        _ => [x + y, y - x],
+    }
+}
+
+/// Whole records of EXP outside the rectangle that need no steps: exponents of p eighths of a turn
+/// and k doublings, which the reduction brings to nought. The answer is the multiplied start, whose
+/// larger part reaches 2^59.
+pub fn far_exp_records() -> Vec<(Exp, [i64; 6])> {
+    let starts = [(ONE, 0), (0, 0), (3, -5), (MAX_PART, MAX_PART), (-MAX_PART, MAX_PART)];
+    let mut cases = Vec::new();
+    for (p, k) in (-10i64..=10).flat_map(|p| (-12..=12).map(move |k| (p, k))) {
+        let (ex, ey) = (k * H + p.rem_euclid(2) * R, p * Q);
+        // No eighths and at most one doubling: inside the rectangle.
+        if ex.abs() > MAX_EXPONENT || (p == 0 && k.abs() <= 1) {
+            continue;
+        }
+        for ((sx, sy), n) in starts.into_iter().flat_map(|start| [1, 2, 20, 40].map(|n| (start, n)))
+        {
+            let [x, y] = multiplied(p, sx, sy);
+            let share = (8 * x.abs().max(y.abs()) + (1 << n) - 1) >> n;
+            cases.push((Exp { n, ex, ey, sx, sy }, [0, x, y, k, 0, share + 2 * n]));
+        }
+    }
+    cases
+}
+
+/// Exponents outside the rectangle with their k: at every threshold of k and a unit below, for odd
+/// and for even p; at every threshold of p, where ex = 0 loses R or does not; at the corners.
+pub fn exp_scales() -> Vec<(Exp, i64)> {
+    let at = |ex, ey| Exp { ex, ey, ..EXP };
+    // The least part that has j + 1 of the unit.
+    let from = |j: i64, unit: i64| ((2 * j + 1) * unit + 1).div_euclid(2);
+    let mut cases = vec![(at(EX_GREATEST + 1, 0), 1), (at(EX_LEAST - 1, 0), -1)];
+    for (p, j) in (-10i64..=10).flat_map(|p| (-12..=11).map(move |j| (p, j))) {
+        let (ex, ey) = (from(j, H) + p.rem_euclid(2) * R, p * Q);
+        // Without eighths, the thresholds next to nought are inside the rectangle.
+        if ex <= MAX_EXPONENT && (p != 0 || ![-1, 0].contains(&j)) {
+            cases.extend([(at(ex, ey), j + 1), (at(ex - 1, ey), j)]);
+        }
+    }
+    for j in (-10..=9).filter(|j| ![-1, 0].contains(j)) {
+        // -R is a unit past the threshold of -H/2: k is -1 for odd p.
+        let k = |p: i64| -p.rem_euclid(2);
+        cases.extend([(at(0, from(j, Q)), k(j + 1)), (at(0, from(j, Q) - 1), k(j))]);
+    }
+    for ey in [-MAX_EXPONENT, MAX_EXPONENT] {
+        cases.extend([(at(-MAX_EXPONENT, ey), -12), (at(MAX_EXPONENT, ey), 12)]);
+    }
+    cases
+}
+
+/// The columns of LOG, even ones and with M a unit less and more.
 pub fn log_bounds() -> Vec<(Log, i64)> {
     let mut cases = Vec::new();
     for n in 3..=40 {
         let even = 1 << n;
-        for (m, bound) in
-            [(even - 1, 3), (even, 3), (even + 1, 4), (MAX_PART, 3 * (MAX_PART >> n))]
+        for (m, bound) in [(even - 1, 3), (even, 3), (even + 1, 4), (MAX_PART, 3 * (MAX_PART >> n))]
         {
             for (x, y) in [(m, 0), (-m, 1), (1, m), (0, -m)] {
                 cases.push((Log { n, x, y }, bound));

@@ -1,4 +1,4 @@
-//! EXP of 01.
+//! EXP of 01, with the exponents up to eight of 02, E5.
 
 use crate::answer::{Answer, Figures, Refusal};
 use crate::point::{ceiling_quotient, nearest_quotient, point, word, Digit, Point, Quotient};
@@ -22,12 +22,66 @@ impl Input {
     pub fn start(self) -> Point {
         point(self.sx.into(), self.sy.into())
     }
+
+    /// What the steps run on inside the rectangle.
+    pub fn unreduced(self) -> Reduction {
+        Reduction { exponent: self.exponent(), start: self.start(), binary_exponent: 0 }
+    }
+
+    /// What they run on.
+    pub fn reduction(self, width: Width) -> Reduction {
+        if in_rectangle(self.exponent(), width) {
+            self.unreduced()
+        } else {
+            reduce(self.exponent(), self.start(), width)
+        }
+    }
 }
 
 /// The least and the greatest ex, then ey: -53/64, 55/64, ∓47/64.
 pub fn rectangle(width: Width) -> [(i128, i128); 2] {
     let sixty_fourth = width.one() / 64;
     [(-53, 55), (-47, 47)].map(|(low, high)| (low * sixty_fourth, high * sixty_fourth))
+}
+
+pub fn in_rectangle(exponent: Point, width: Width) -> bool {
+    let [xs, ys] = rectangle(width);
+    (xs.0..=xs.1).contains(&exponent.x) && (ys.0..=ys.1).contains(&exponent.y)
+}
+
+/// The given start times the exponential of the given exponent is 2^k times the same of these,
+/// nearly.
+#[derive(Clone, Copy, PartialEq, Eq, Debug)]
+pub struct Reduction {
+    pub exponent: Point,
+    pub start: Point,
+    /// k of 02, E5.
+    pub binary_exponent: i64,
+}
+
+/// What the start is multiplied by, by p modulo 8.
+pub const FACTORS: [(i128, i128); 8] =
+    [(1, 0), (1, 1), (0, 1), (-1, 1), (-1, 0), (-1, -1), (0, -1), (1, -1)];
+
+/// floor(part/unit + 1/2).
+pub fn nearest_multiple(part: i128, unit: i128) -> i128 {
+    (2 * part + unit).div_euclid(2 * unit)
+}
+
+/// The reduction of 02, E5: eighths of a turn, p of them, leave the exponent for the start, then
+/// doublings for k.
+pub fn reduce(exponent: Point, start: Point, width: Width) -> Reduction {
+    let Tables { log_of_one_plus_i, log_of_two, .. } = tables(width);
+    let eighths = nearest_multiple(exponent.y, log_of_one_plus_i.y);
+    let (x, y) = FACTORS[eighths.rem_euclid(8) as usize];
+    let lost = if eighths.rem_euclid(2) == 1 { log_of_one_plus_i.x } else { 0 };
+    let turned = exponent - point(lost, eighths * log_of_one_plus_i.y);
+    let doublings = nearest_multiple(turned.x, log_of_two.x);
+    Reduction {
+        exponent: turned - point(doublings * log_of_two.x, 0),
+        start: start.times(point(x, y)),
+        binary_exponent: word(doublings),
+    }
 }
 
 /// Where digits change, in sixteenths of 1/2^n: a part below the first number has the
@@ -103,13 +157,11 @@ impl Iterator for Steps {
     }
 }
 
-/// 01, Turned away: the first condition that holds.
+/// 01, Turned away, with the limit of 02, E5: the first condition that holds.
 fn refusal(input: Input, width: Width) -> Option<Refusal> {
-    let [(x_low, x_high), (y_low, y_high)] = rectangle(width);
-    let Point { x, y } = input.exponent();
     if !(1..=width.max_steps()).contains(&input.n) {
         Some(Refusal::Steps)
-    } else if !(x_low..=x_high).contains(&x) || !(y_low..=y_high).contains(&y) {
+    } else if input.exponent().larger_part() > width.max_exponent() {
         Some(Refusal::Exponent)
     } else if input.start().larger_part() > width.max_part() {
         Some(Refusal::Part)
@@ -122,15 +174,19 @@ pub fn exp(input: Input, width: Width) -> Answer {
     if let Some(refusal) = refusal(input, width) {
         return Err(refusal);
     }
-    let n = input.n as u32;
-    let run = steps(input.exponent(), input.start(), CUT, width);
+    Ok(figures(input.n as u32, input.reduction(width), width))
+}
+
+/// N steps from there; M is the larger part of the start that they run on.
+pub fn figures(n: u32, reduction: Reduction, width: Width) -> Figures {
+    let Reduction { exponent, start, binary_exponent } = reduction;
+    let run = steps(exponent, start, CUT, width);
     let end = run.take(n as usize).last().expect("N is at least 1");
-    let error_bound = ceiling_quotient(8 * input.start().larger_part(), n) + 2 * i128::from(n);
-    Ok(Figures {
+    Figures {
         x: word(end.start.x),
         y: word(end.start.y),
-        binary_exponent: 0,
+        binary_exponent,
         quadrant: 0,
-        error_bound: word(error_bound),
-    })
+        error_bound: word(ceiling_quotient(8 * start.larger_part(), n) + 2 * i128::from(n)),
+    }
 }

@@ -1,6 +1,6 @@
-//! A second implementation of paper 01, written for comparison: plain i128
-//! arithmetic, tables computed at first use, nothing shared with the product.
-//! "01" in a comment is that paper, "000" and "001" its source documents.
+//! A second implementation of paper 01 and of the requests of 02, written for comparison:
+//! plain i128 arithmetic, tables computed at first use, nothing shared with the product.
+//! "01" and "02" in a comment are those papers, "000", "001" and "004" their source documents.
 
 pub mod answer;
 pub mod closeness;

@@ -28,7 +28,7 @@ pub fn turned_by(quotient: Quotient, p: Point, angle: i64) -> Point {
     steps.last().expect("there are steps").start
 }
 
-/// A hundred angles from a hundredth of the largest that EXP takes up to it, in mixed order.
+/// A hundred angles from a hundredth of the largest in the rectangle up to it, in mixed order.
 pub fn angles() -> impl Iterator<Item = i64> {
     let [_, (_, largest)] = rectangle(WIDTH_48);
     (1..=100).map(move |i| largest as i64 / 100 * (37 * i % 101))

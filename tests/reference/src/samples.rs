@@ -4,6 +4,7 @@ use crate::exponential::{self, rectangle, CUT};
 use crate::logarithm::{self, reduce, FIRST_STEP};
 use crate::point::{floor_quotient, point, Point};
 use crate::sheet::{parse, write_line, Call, Line};
+use crate::tables::{tables, Tables};
 use crate::width::Width;
 
 /// Steele, Lea and Flood's splitmix64.
@@ -75,7 +76,7 @@ fn part(random: &mut Random, width: Width) -> i128 {
     }
 }
 
-/// An exponent part, now and then outside the rectangle.
+/// A part of an exponent for the rectangle, now and then outside.
 fn exponent_part(random: &mut Random, (low, high): (i128, i128), width: Width) -> i128 {
     match random.between(0, 15) {
         0..=7 => random.between(low, high),
@@ -111,12 +112,55 @@ fn exponent_at_threshold(random: &mut Random, width: Width) -> Point {
     point(moved.x.clamp(xs.0, xs.1), moved.y.clamp(ys.0, ys.1))
 }
 
+/// Where a nearest multiple of the unit changes, give or take a unit: the least part that has
+/// j + 1 of them, for a j within the count.
+fn at_half(random: &mut Random, unit: i128, count: i128) -> i128 {
+    let odd = 2 * random.between(-count, count - 1) + 1;
+    (odd * unit + 1).div_euclid(2) + random.nudge()
+}
+
+/// A part of an exponent up to eight, now and then beyond or at an edge of the rectangle.
+fn far_part(random: &mut Random, (low, high): (i128, i128), width: Width) -> i128 {
+    let limit = width.max_exponent();
+    match random.between(0, 15) {
+        0..=9 => random.between(-limit, limit),
+        10..=11 => random.between(low, high),
+        12..=13 => random.pick(&[low, high, low - 1, high + 1]),
+        14 => random.pick(&[limit, -limit, limit - 1, 1 - limit]),
+        _ if random.one_in(4) => {
+            random.pick(&[limit + 1, -limit - 1, i64::MIN.into(), i64::MAX.into()])
+        }
+        _ => 0,
+    }
+}
+
+/// An exponent for the reduction: p changes at ey, k at ex, both or neither.
+fn far_exponent(random: &mut Random, width: Width) -> Point {
+    let limit = width.max_exponent();
+    let Tables { log_of_one_plus_i, log_of_two, .. } = tables(width);
+    let [xs, ys] = rectangle(width);
+    let y = if random.one_in(4) {
+        at_half(random, log_of_one_plus_i.y, 10)
+    } else {
+        far_part(random, ys, width)
+    };
+    let x = if random.one_in(4) {
+        // Odd p and even p: what ex loses before k is taken.
+        let lost = random.pick(&[0, log_of_one_plus_i.x]);
+        (lost + at_half(random, log_of_two.x, 12)).clamp(-limit, limit)
+    } else {
+        far_part(random, xs, width)
+    };
+    point(x, y)
+}
+
+/// Three in eight have an exponent for the reduction.
 pub fn exp_input(random: &mut Random, width: Width) -> exponential::Input {
     let [xs, ys] = rectangle(width);
-    let exponent = if random.one_in(4) {
-        exponent_at_threshold(random, width)
-    } else {
-        point(exponent_part(random, xs, width), exponent_part(random, ys, width))
+    let exponent = match random.between(0, 7) {
+        0..=1 => exponent_at_threshold(random, width),
+        2..=4 => point(exponent_part(random, xs, width), exponent_part(random, ys, width)),
+        _ => far_exponent(random, width),
     };
     exponential::Input {
         n: steps(random, 1, width),

@@ -1,4 +1,5 @@
-//! Sheets of 01 whose numbers must rise (02, E3), from bytes to bytes.
+//! Sheets of 01 whose numbers must rise (02, E3) and whose EXP lines have a k (02, E5), from
+//! bytes to bytes.
 
 use crate::answer::Refusal;
 use crate::width::Width;
@@ -84,7 +85,7 @@ fn answer_text(Line { serial, call }: Line, width: Width) -> Result<String, Refu
     Ok(match call {
         Call::Exp(input) => {
             let f = exponential::exp(input, width)?;
-            joined(serial, "EXP", &[input.n, f.x, f.y, f.error_bound])
+            joined(serial, "EXP", &[input.n, f.x, f.y, f.binary_exponent, f.error_bound])
         }
         Call::Log(input) => {
             let f = logarithm::log(input, width)?;

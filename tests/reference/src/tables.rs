@@ -1,5 +1,5 @@
-//! The tables of 01. A logarithm is found by Newton's method on the exponential,
-//! so no series of logarithm or arctangent is shared with `make_tables.py`.
+//! The tables of 01 and the constants of 02, E5. A logarithm is found by Newton's method on the
+//! exponential, so no series of logarithm or arctangent is shared with `make_tables.py`.
 
 use crate::fixed::{Complex, Fixed};
 use crate::point::{point, Digit, Point};
@@ -11,6 +11,9 @@ pub struct Tables {
     steps: Vec<[[Point; 3]; 3]>,
     /// [(X - 17)/2][(Y + 31)/2]
     reciprocal_logs: Vec<Vec<Point>>,
+    /// ln(1 + i): by its parts the units nearest ½·ln 2 and π/4.
+    pub log_of_one_plus_i: Point,
+    pub log_of_two: Point,
 }
 
 pub fn tables(width: Width) -> &'static Tables {
@@ -28,7 +31,9 @@ impl Tables {
         let reciprocal_logs = cell_xs()
             .map(|cx| cell_ys().map(|cy| logarithm(reciprocal(cx, cy), 6, width)).collect())
             .collect();
-        Tables { steps, reciprocal_logs }
+        let [log_of_one_plus_i, log_of_two] =
+            [(1, 1), (2, 0)].map(|(x, y)| logarithm(point(x, y), 0, width));
+        Tables { steps, reciprocal_logs, log_of_one_plus_i, log_of_two }
     }
 
     /// ln(1 + digit/2^n)

@@ -21,6 +21,11 @@ impl Width {
         i64::from(self.fraction_bits) - 8
     }
 
+    /// The largest size of an exponent part, eight (02, E5): 2^51 at width 48.
+    pub fn max_exponent(self) -> i128 {
+        8 * self.one()
+    }
+
     /// The largest size of a start part or a point part: 2^58 at width 48.
     pub fn max_part(self) -> i128 {
         1 << (self.fraction_bits + 10)

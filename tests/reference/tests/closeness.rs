@@ -1,7 +1,9 @@
-//! Demand 3 and the convergence that 01 states, on random and edge inputs at every width.
+//! Demand 3 and the convergence that 01 and 02, E5 state, on random and edge inputs at every width.
 
-use reference::closeness::{exp_closeness, log_closeness};
-use reference::exponential::{self, exp, CUT};
+use reference::answer::Figures;
+use reference::closeness::{exp_closeness, log_closeness, FAR, NEAR};
+use reference::exponential::{self, exp, figures, in_rectangle, rectangle, CUT};
+use reference::fixed::{Complex, Fixed};
 use reference::logarithm::{self, log, reduce};
 use reference::point::point;
 use reference::samples::{exp_input, log_input, Random};
@@ -13,16 +15,66 @@ const SAMPLES: usize = 60_000;
 fn exp_is_close() {
     for width in WIDTHS {
         let mut random = Random::new(1);
-        let mut worst = 0.0;
+        // Inside the rectangle and outside.
+        let mut worst = [0.0; 2];
         for _ in 0..SAMPLES {
             let input = exp_input(&mut random, width);
             if let Ok(figures) = exp(input, width) {
                 let closeness = exp_closeness(input, figures, width);
                 assert!(closeness.holds(), "{input:?}");
-                worst = f64::max(worst, closeness.fraction());
+                let worst = &mut worst[usize::from(!in_rectangle(input.exponent(), width))];
+                *worst = f64::max(*worst, closeness.fraction());
             }
         }
-        println!("EXP, width {}: at most {worst:.3} of what is allowed", width.fraction_bits);
+        println!("EXP, width {}: at most {worst:.3?} of what is allowed", width.fraction_bits);
+    }
+}
+
+/// Sums of more terms stay within what `closeness` adds for them, at the corners that are furthest
+/// from nought.
+#[test]
+fn longer_sums() {
+    for width in WIDTHS {
+        let [(_, x), (_, y)] = rectangle(width);
+        let eight = width.max_exponent();
+        for (series, x, y) in [(NEAR, x, y), (FAR, eight, eight)] {
+            for (x, y) in [(x, y), (x, -y), (-x, y), (-x, -y)] {
+                let z = Complex::ratio(x, y, width.fraction_bits);
+                for terms in [1, 2, 20, 100].map(|more| series.terms + more) {
+                    let beyond = (z.exponential(terms) - series.sum(z)).norm();
+                    assert!(beyond < Fixed::ratio(1, 2 * series.tail_bits), "{terms} terms");
+                }
+            }
+        }
+    }
+}
+
+/// Inside the rectangle the reduction would give nearly the same: 2^k times its answer and the
+/// answer differ by at most both columns, the one times 2^k.
+#[test]
+fn seam() {
+    for width in WIDTHS {
+        let mut random = Random::new(16);
+        let mut met = 0;
+        for _ in 0..SAMPLES {
+            let input = exp_input(&mut random, width);
+            if exp(input, width).is_err() || !in_rectangle(input.exponent(), width) {
+                continue;
+            }
+            let n = input.n as u32;
+            let reduced = exponential::reduce(input.exponent(), input.start(), width);
+            let [plain, reduced] = [input.unreduced(), reduced].map(|r| figures(n, r, width));
+            // Both times 2^down, so that all is whole.
+            let down = (-reduced.binary_exponent).max(0);
+            let up = down + reduced.binary_exponent;
+            let whole = |f: Figures, power: i64| {
+                [f.x, f.y, f.error_bound].map(|number| i128::from(number) << power)
+            };
+            let ([x, y, bound], [u, v, other]) = (whole(plain, down), whole(reduced, up));
+            assert!((x - u).abs().max((y - v).abs()) <= bound + other, "{input:?}");
+            met += 1;
+        }
+        assert!(met > SAMPLES / 2);
     }
 }
 
@@ -73,7 +125,9 @@ fn exponents_shrink() {
             if exp(exponential::Input { n: 1, ..input }, width).is_err() {
                 continue;
             }
-            for step in exponential::steps(input.exponent(), input.start(), CUT, width) {
+            let reduction = input.reduction(width);
+            assert!(in_rectangle(reduction.exponent, width), "{input:?}");
+            for step in exponential::steps(reduction.exponent, reduction.start, CUT, width) {
                 assert!(step.exponent.larger_part() < width.one() >> step.n, "{input:?}");
             }
         }

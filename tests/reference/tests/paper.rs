@@ -1,23 +1,23 @@
-//! The whole run and the edges of 01.
+//! The whole run and the edges of 01, with those of 02, E5.
 
 use reference::answer::record;
 use reference::damage::tabs;
 use reference::edges::{
-    exp_records, exp_refusals, figure_digits, log_bounds, log_one_digits, log_reductions,
-    log_refusals, LOG,
+    exp_records, exp_refusals, exp_scales, far_exp_records, figure_digits, log_bounds,
+    log_one_digits, log_reductions, log_refusals, EXP, EX_GREATEST, H, LOG, Q, R,
 };
-use reference::exponential::{exp, steps, CUT};
+use reference::exponential::{exp, steps, Input as Exp, Reduction, CUT};
 use reference::figure::EXPONENT;
 use reference::logarithm::{self, log, reduce};
 use reference::point::point;
 use reference::sheet::answer_sheet;
-use reference::tables::reciprocal;
+use reference::tables::{reciprocal, tables};
 use reference::width::WIDTH_48 as W;
 
 #[test]
 fn whole_run() {
     let input = tabs("1|EXP|40|0|0|281474976710656|0\n2|LOG|40|0|0\n3|EXP|0|0|0|0|0\n");
-    let output = tabs("BKM|48\n1|EXP|40|281474976710656|0|2128\n2|REF|4\n3|REF|1\n");
+    let output = tabs("BKM|48\n1|EXP|40|281474976710656|0|0|2128\n2|REF|4\n3|REF|1\n");
     assert_eq!(answer_sheet(&input, W), output);
     assert_eq!(answer_sheet(&input[..input.len() - 1], W), output);
 }
@@ -42,9 +42,33 @@ fn limits_of_log() {
 
 #[test]
 fn records_of_exp() {
-    for (input, wanted) in exp_records() {
+    for (input, wanted) in exp_records().into_iter().chain(far_exp_records()) {
         assert_eq!(record(exp(input, W)), wanted, "{input:?}");
     }
+}
+
+#[test]
+fn scales_of_exp() {
+    for (input, k) in exp_scales() {
+        assert_eq!(record(exp(input, W))[3], k, "{input:?}");
+    }
+}
+
+#[test]
+fn constants_of_the_reduction() {
+    assert_eq!(tables(W).log_of_one_plus_i, point(R.into(), Q.into()));
+    assert_eq!(tables(W).log_of_two, point(H.into(), 0));
+}
+
+/// Just past 55/64, and at the end of it.
+#[test]
+fn past_the_rectangle() {
+    let input = Exp { ex: EX_GREATEST + 1, ..EXP };
+    let exponent = point(46788971605554, 0);
+    let wanted = Reduction { exponent, start: input.start(), binary_exponent: 1 };
+    assert_eq!(input.reduction(W), wanted);
+    let input = Exp { ex: EX_GREATEST, ..EXP };
+    assert_eq!(input.reduction(W), input.unreduced());
 }
 
 #[test]

@@ -1,8 +1,9 @@
 //! That the random inputs reach the edges they are meant for.
 
-use reference::exponential::{self, exp, CUT};
+use reference::edges::{H, Q, R};
+use reference::exponential::{self, exp, in_rectangle, nearest_multiple, Reduction, CUT};
 use reference::logarithm::{self, log, reduce};
-use reference::point::point;
+use reference::point::{point, Point};
 use reference::samples::{exp_input, log_input, Random};
 use reference::width::WIDTH_48 as W;
 use std::collections::HashSet;
@@ -19,8 +20,8 @@ fn exp_thresholds() {
         if exp(exponential::Input { n: 1, ..input }, W).is_err() {
             continue;
         }
-        let mut exponent = input.exponent();
-        for step in exponential::steps(exponent, input.start(), CUT, W) {
+        let Reduction { mut exponent, start, .. } = input.reduction(W);
+        for step in exponential::steps(exponent, start, CUT, W) {
             let sixteenth = W.one() >> (step.n + 4);
             for (part, (low, high)) in [exponent.x, exponent.y].into_iter().zip(CUT) {
                 for threshold in [low, high] {
@@ -34,6 +35,47 @@ fn exp_thresholds() {
         }
     }
     assert_eq!(met.len(), 40 * 4 * 2);
+}
+
+/// The multiple whose threshold a part meets, and whether exactly or a unit below.
+fn threshold(part: i128, unit: i128) -> Option<(i128, bool)> {
+    let [below, here, above] = [-1, 0, 1].map(|more| nearest_multiple(part + more, unit));
+    if below < here {
+        Some((here, true))
+    } else {
+        (here < above).then_some((above, false))
+    }
+}
+
+/// Each threshold of p is met exactly and missed by one unit, and each of k after odd and even p;
+/// every p modulo 8 meets the largest starts. What is left of an exponent is at most half of Q and
+/// H.
+#[test]
+fn exp_reductions() {
+    let (mut eighths, mut doublings) = (HashSet::new(), HashSet::new());
+    let (mut largest, mut left) = (HashSet::new(), point(0, 0));
+    let mut random = Random::new(10);
+    for _ in 0..SAMPLES {
+        let input = exp_input(&mut random, W);
+        let exponent = input.exponent();
+        if exp(input, W).is_err() || in_rectangle(exponent, W) {
+            continue;
+        }
+        let [q, h, r] = [Q, H, R].map(i128::from);
+        let p = nearest_multiple(exponent.y, q);
+        let odd = p.rem_euclid(2);
+        eighths.extend(threshold(exponent.y, q));
+        doublings.extend(threshold(exponent.x - odd * r, h).map(|met| (odd, met)));
+        if input.start().larger_part() == W.max_part() {
+            largest.insert(p.rem_euclid(8));
+        }
+        let Point { x, y } = input.reduction(W).exponent;
+        left = point(left.x.max(x.abs()), left.y.max(y.abs()));
+    }
+    assert_eq!(eighths.len(), 20 * 2);
+    assert_eq!(doublings.len(), (24 + 23) * 2);
+    assert_eq!(largest.len(), 8);
+    assert_eq!(left, point(97551793252583, 110534964875444));
 }
 
 /// Each threshold of LOG likewise, and every cell, quadrant and binary exponent.

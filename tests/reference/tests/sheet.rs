@@ -79,7 +79,7 @@ fn lines_carry_the_figures() {
         let serial = parsed.serial;
         let wanted = match kind {
             _ if number != 0 => format!("{serial}|REF|{number}\n"),
-            "EXP" => format!("{serial}|EXP|{n}|{x}|{y}|{bound}\n"),
+            "EXP" => format!("{serial}|EXP|{n}|{x}|{y}|{k}|{bound}\n"),
             _ => format!("{serial}|LOG|{n}|{x}|{y}|{k}|{q}|{bound}\n"),
         };
         assert_eq!((refusal, answer), (number, tabs(&wanted)));
@@ -88,8 +88,9 @@ fn lines_carry_the_figures() {
 
 #[test]
 fn lent_buffers() {
+    let far = "5|EXP|40|2251799813685248|-2251799813685248|288230376151711744|0";
     let lines = ["1|EXP|40|0|0|281474976710656|0", "2|LOG|40|0|0", "nonsense", "4|LOG|40|-3|8"];
-    for line in lines.map(tabs) {
+    for line in lines.into_iter().chain([far]).map(tabs) {
         let (refusal, answer) = answer_line(&line, W);
         for length in 0..=300 {
             let mut out = vec![0xa5; length];

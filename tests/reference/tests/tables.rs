@@ -1,4 +1,4 @@
-//! The tables, at every width.
+//! The tables and the constants of the reduction, at every width.
 
 use reference::fixed::{Complex, Fixed};
 use reference::point::{point, Point};
@@ -25,6 +25,8 @@ fn entries(width: Width) -> Vec<(Point, Point, u32)> {
             entries.push((tables.reciprocal_log(cx, cy), reciprocal(cx, cy), 6));
         }
     }
+    entries
+        .extend([(tables.log_of_one_plus_i, point(1, 1), 0), (tables.log_of_two, point(2, 0), 0)]);
     entries
 }
 
@@ -68,6 +70,10 @@ fn identities() {
         // arctan 1/2 + arctan 1/3 = 2·arctan 1/3 + arctan 1/7 = arctan 1
         near(at(1, 0, 1).y + at(1, 1, 1).y, at(1, -1, 1).y);
         near(2 * at(1, 1, 1).y + at(3, -1, 1).y, at(1, -1, 1).y);
+        // 1 + i is twice (1 + i)/2; 1/2 is one over 2
+        near(tables(width).log_of_one_plus_i.x, at(1, -1, 1).x + tables(width).log_of_two.x);
+        near(tables(width).log_of_one_plus_i.y, at(1, -1, 1).y);
+        near(tables(width).log_of_two.x, -at(1, -1, 0).x);
         // 3/2 · 5/4 · 1/2 = 15/16
         near(at(1, 1, 0).x + at(2, 1, 0).x + at(1, -1, 0).x, at(4, -1, 0).x);
         for n in 1..=width.max_steps() as u32 {
@@ -126,6 +132,9 @@ fn equal_to_make_tables() {
                 ours.insert(("reciprocal_log".to_string(), vec![cx, cy]), log);
             }
         }
+        let (one_plus_i, two) = (tables(width).log_of_one_plus_i, tables(width).log_of_two);
+        ours.insert(("constant".to_string(), vec![1, 1]), one_plus_i);
+        ours.insert(("constant".to_string(), vec![2, 0]), two);
         assert!(theirs == ours, "width {}", width.fraction_bits);
     }
 }

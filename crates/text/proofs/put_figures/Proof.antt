@@ -27,7 +27,8 @@ returns : tie.Need-returns
 unfolding recordOf
 returns c =
     let p = c .before .before in
-    let t22 = p .before .before .before .before in
+    let t25 = p .before .before .before .before in
+    let t22 = t25 .before in
     let t19 = t22 .before in
     let t16 = t19 .before in
     let e = t16 .before in
@@ -35,19 +36,25 @@ returns c =
     let s = r .before .before in
     rw (e .enum-told .given .1)
     (replied refl
-    (rw (back (s .fits .serial), back (s .fits .n), held r 1 (t16 .t16 .given), held r 2 (t19 .t19 .given), held r 5 (t22 .t22 .given)) at
-    (p .put-line .ensures)))
+    (rw (
+      back (s .fits .serial),
+      back (s .fits .n),
+      held r 1 (t16 .t16 .given),
+      held r 2 (t19 .t19 .given),
+      held r 3 (t22 .t22 .given),
+      held r 5 (t25 .t25 .given),
+    ) at (p .put-line .ensures)))
 
 returns-2 : tie.Need-returns-2
 unfolding recordOf
 returns-2 c =
     let p = c .before .before in
-    let t43 = p .before .before .before .before in
+    let t46 = p .before .before .before .before in
+    let t43 = t46 .before in
     let t40 = t43 .before in
     let t37 = t40 .before in
     let t34 = t37 .before in
-    let t31 = t34 .before in
-    let e = t31 .before in
+    let e = t34 .before in
     let r = e .before .before in
     let s = r .before .before in
     rw (e .enum-told2 .given .1)
@@ -55,11 +62,11 @@ returns-2 c =
     (rw (
       back (s .fits .serial),
       back (s .fits .n),
-      held r 1 (t31 .t31 .given),
-      held r 2 (t34 .t34 .given),
-      held r 3 (t37 .t37 .given),
-      held r 4 (t40 .t40 .given),
-      held r 5 (t43 .t43 .given),
+      held r 1 (t34 .t34 .given),
+      held r 2 (t37 .t37 .given),
+      held r 3 (t40 .t40 .given),
+      held r 4 (t43 .t43 .given),
+      held r 5 (t46 .t46 .given),
     ) at (p .put-line2 .ensures)))
 
 -- ---- the other needs
@@ -78,6 +85,9 @@ array-copy-out-t19 c = search needs
 array-copy-out-t22 : tie.Need-array-copy-out-t22
 array-copy-out-t22 c = search needs
 
+array-copy-out-t25 : tie.Need-array-copy-out-t25
+array-copy-out-t25 c = search needs
+
 slice-aggregate-put-line : tie.Need-slice-aggregate-put-line
 slice-aggregate-put-line c = search needs
 
@@ -90,9 +100,6 @@ put-line-requires c κs = search needs
 enum-told-2 : tie.Need-enum-told-2
 enum-told-2 c = search needs
 
-array-copy-out-t31 : tie.Need-array-copy-out-t31
-array-copy-out-t31 c = search needs
-
 array-copy-out-t34 : tie.Need-array-copy-out-t34
 array-copy-out-t34 c = search needs
 
@@ -104,6 +111,9 @@ array-copy-out-t40 c = search needs
 
 array-copy-out-t43 : tie.Need-array-copy-out-t43
 array-copy-out-t43 c = search needs
+
+array-copy-out-t46 : tie.Need-array-copy-out-t46
+array-copy-out-t46 c = search needs
 
 slice-aggregate-put-line-3 : tie.Need-slice-aggregate-put-line-3
 slice-aggregate-put-line-3 c = search needs
@@ -129,15 +139,16 @@ put-figures-spec =
     array-copy-out-t16
     array-copy-out-t19
     array-copy-out-t22
+    array-copy-out-t25
     slice-aggregate-put-line
     slice-aggregate-put-line-2
     put-line-requires
     enum-told-2
-    array-copy-out-t31
     array-copy-out-t34
     array-copy-out-t37
     array-copy-out-t40
     array-copy-out-t43
+    array-copy-out-t46
     slice-aggregate-put-line-3
     slice-aggregate-put-line-4
     put-line-requires-2
