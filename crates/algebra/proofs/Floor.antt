@@ -60,6 +60,12 @@ module _ (m : ℕ) (h : 0 < m) where
       ρ : List ℤ
       ρ = pos m ∷ pos (m / 2) ∷ z ∷ nearest z m ∷ []
 
+  -- c more where c · m is added
+  pub nearest-shifted : (z c : ℤ) → shrZ (pos 2 *ℤ z +ℤ pos m +ℤ pos 2 *ℤ pos m *ℤ c) (2 * m) ≡ nearest z m +ℤ c
+  nearest-shifted z c = floor-unique (2 * m) (omega arith) (pos 2 *ℤ z +ℤ pos m +ℤ pos 2 *ℤ pos m *ℤ c) (nearest z m +ℤ c)
+      (lin (z ∷ c ∷ pos m ∷ nearest z m ∷ []) (nearest-lo z & none) (search reify depth 20) tt)
+      (lin (z ∷ c ∷ pos m ∷ nearest z m ∷ []) (nearest-hi z & none) (search reify depth 20) tt)
+
 -- ---- z/m rounded up: the least whole number that is not below it
 module _ (m : ℕ) (h : 0 < m) where
   pub ceiling-enough : (z : ℤ) → z ⩽ ceiling z m *ℤ pos m

@@ -1,5 +1,5 @@
 -- Complex whole numbers (Gaussian integers): a commutative ring, with conjugate, multiplication by i, squared length and inner product.
-use mathlib.Core.Path.{_≡_, refl, ap}
+use mathlib.Core.Path.{_≡_, refl, sym, _∙_, ap}
 use mathlib.Core.List.{List, [], _∷_}
 use Prim.Native.Nat.{ℕ, zero, suc}
 use lib.IntN.{ℤ, pos, _+ℤ_, _*ℤ_, negℤ}
@@ -126,6 +126,12 @@ pub power-is : (z : 𝔾) (n : ℕ) → pw 𝔾R z n ≡ z ^ᵍ n
 unfolding _^ᵍ_
 power-is z zero = refl
 power-is z (suc n) = ap (λ w. w *ᵍ z) (power-is z n)
+
+-- and of a real number
+pub ι-power : (a : ℤ) (n : ℕ) → ιᵍ a ^ᵍ n ≡ ιᵍ (pw ℤR a n)
+unfolding _^ᵍ_
+ι-power a zero = refl
+ι-power a (suc n) = ap (λ z. z *ᵍ ιᵍ a) (ι-power a n) ∙ sym (g-ι-mul (pw ℤR a n) a)
 
 -- ---- conjugate, and times i
 pub i-mul : (z : 𝔾) → iᵍ *ᵍ z ≡ gi (negℤ (z .im)) (z .re)

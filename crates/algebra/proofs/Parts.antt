@@ -1,8 +1,10 @@
 -- Sizes ("size" of a part is its absolute value, 01): a number at most b in size, a complex number with each part at most b in size, and
 -- how that goes with lengths: a part is at most the length, and the length at most 99/70 of the larger part (2·70² ≤ 99²).
-use mathlib.Core.Path.{_≡_, sym, subst}
+use mathlib.Core.Path.{_≡_, sym, ap, subst}
 use mathlib.Core.List.{List, [], _∷_}
-use Prim.Native.Nat.{ℕ, _≤_, _<_}
+use mathlib.Core.Logic.{⊎-elim}
+use Prim.Native.Nat.{ℕ, zero, suc, _+_, _-_, _≤_, _<_}
+use native.Mathlib.Omega.{arith}
 use lib.IntN.{ℤ, pos, negsuc, _+ℤ_, _-ℤ_, _*ℤ_, negℤ, natAbs}
 use lib.Signed.{shrZ}
 use Rattle.algebra.specs.Gauss.{𝔾, ιᵍ, negᵍ, _+ᵍ_, _-ᵍ_, _*ᵍ_, N}
@@ -12,8 +14,8 @@ use Rattle.algebra.specs.Rounding.{nearest, floorᵍ}
 use Rattle.algebra.proofs.Integer.{ℤR}
 use Rattle.algebra.proofs.Gauss.{N-mul, N-scale}
 use Rattle.algebra.proofs.Reify.{ring!, reify}
-use Rattle.algebra.proofs.Order.{⩽-refl, ⩽-trans, nonneg-add, nonneg-mul, nonneg-pos, nonneg-sq, sub-nonneg, pos-mono}
-use Rattle.algebra.proofs.Linear.{lin, lin<, _&_, _&<_, none}
+use Rattle.algebra.proofs.Order.{⩽-refl, ⩽-trans, nonneg-add, nonneg-mul, nonneg-pos, nonneg-sq, sub-nonneg, le-or-gt, pos-mono}
+use Rattle.algebra.proofs.Linear.{lin, lin<, lin-false, _&_, _&<_, _&≡_, none}
 use Rattle.algebra.proofs.Inequality.{sq-le, le-cancel, below-next, neg-mono}
 use Rattle.algebra.proofs.Within.{N-nonneg}
 use Rattle.algebra.proofs.Floor.{floor-lo, floor-hi, nearest-lo, nearest-hi}
@@ -134,6 +136,21 @@ size-off m h x = record {
   hi = lin (x ∷ pos m ∷ nearest x m ∷ []) (nearest-lo m h x & none) (search reify depth 20) tt;
 }
 
+-- a number of at most c in size has at most n nearest multiples of m, where 2·c is below (2·n + 1)·m
+pub size-multiple : (m n : ℕ) → 0 < m → (x c : ℤ) → Size x c → pos 2 *ℤ c +ℤ pos 1 ⩽ (pos 2 *ℤ pos n +ℤ pos 1) *ℤ pos m →
+    Size (nearest x m) (pos n)
+size-multiple m n h x c s few = record {
+  lo = ⊎-elim (λ k. k) (λ k. absurd (lin-false ρ
+      (nearest-hi m h x & s .lo & few & nonneg-mul (nonneg-pos m) (sub-nonneg k) & none) (search reify depth 20) tt))
+      (le-or-gt (negℤ (pos n)) (nearest x m));
+  hi = ⊎-elim (λ k. k) (λ k. absurd (lin-false ρ
+      (nearest-lo m h x & s .hi & few & nonneg-mul (nonneg-pos m) (sub-nonneg k) & none) (search reify depth 20) tt))
+      (le-or-gt (nearest x m) (pos n));
+}
+  where
+    ρ : List ℤ
+    ρ = pos m ∷ pos n ∷ x ∷ c ∷ nearest x m ∷ []
+
 -- which is no larger than what is divided
 pub size-nearest : {x b : ℤ} (m : ℕ) → 0 < m → Size x b → Size (nearest x m) b
 size-nearest {x} {b} m h s = record {
@@ -189,6 +206,48 @@ parts-abs {b} c z h = (
   abs-scaled c (z .re) (subst (λ t. Size t b) (scaled-re c z) (h .re)),
   abs-scaled c (z .im) (subst (λ t. Size t b) (scaled-im c z) (h .im)),
 )
+
+-- ---- from z on in steps of w
+pub moved-re : (z w : 𝔾) (i : ℤ) → (z +ᵍ ιᵍ i *ᵍ w) .re ≡ z .re +ℤ i *ℤ w .re
+unfolding _+ᵍ_
+moved-re z w i = ap (λ t. z .re +ℤ t) (scaled-re i w)
+
+pub moved-im : (z w : 𝔾) (i : ℤ) → (z +ᵍ ιᵍ i *ᵍ w) .im ≡ z .im +ℤ i *ℤ w .im
+unfolding _+ᵍ_
+moved-im z w i = ap (λ t. z .im +ℤ t) (scaled-im i w)
+
+-- what lies between two numbers of at most b in size is at most b in size
+size-convex : (x d b i j n : ℤ) → n ≡ i +ℤ j → pos 0 ⩽ i → pos 0 ⩽ j → pos 1 ⩽ n → Size x b → Size (x +ℤ n *ℤ d) b → Size (x +ℤ i *ℤ d) b
+size-convex x d b i j n e i≥0 j≥0 n≥1 h k = record {
+  lo = le-cancel n n≥1 (lin (x ∷ d ∷ b ∷ i ∷ j ∷ n ∷ [])
+      (nonneg-mul j≥0 (sub-nonneg (h .lo)) & nonneg-mul i≥0 (sub-nonneg (k .lo)) & ap (λ t. t *ℤ x) e &≡ ap (λ t. t *ℤ b) e &≡ none)
+      (search reify depth 20) tt);
+  hi = le-cancel n n≥1 (lin (x ∷ d ∷ b ∷ i ∷ j ∷ n ∷ [])
+      (nonneg-mul j≥0 (sub-nonneg (h .hi)) & nonneg-mul i≥0 (sub-nonneg (k .hi)) & ap (λ t. t *ℤ x) e &≡ ap (λ t. t *ℤ b) e &≡ none)
+      (search reify depth 20) tt);
+}
+
+-- so on the way from z to n times w further each point has parts of at most b, where the ends have
+pub parts-convex : (z w : 𝔾) {b : ℤ} (n : ℕ) → Parts z b → Parts (z +ᵍ ιᵍ (pos n) *ᵍ w) b → (i : ℕ) → i ≤ n → Parts (z +ᵍ ιᵍ (pos i) *ᵍ w) b
+parts-convex z w {b} zero h k i l = subst (λ i. Parts (z +ᵍ ιᵍ (pos i) *ᵍ w) b) none-left k
+  where
+    none-left : 0 ≡ i
+    none-left = omega arith
+parts-convex z w {b} (suc n) h k i l = record {
+  re = subst (λ t. Size t b) (sym (moved-re z w (pos i))) (size-convex (z .re) (w .re) b (pos i) (pos j) (pos (suc n)) parted
+      (nonneg-pos i) (nonneg-pos j) (pos-mono (omega arith)) (h .re) (subst (λ t. Size t b) (moved-re z w (pos (suc n))) (k .re)));
+  im = subst (λ t. Size t b) (sym (moved-im z w (pos i))) (size-convex (z .im) (w .im) b (pos i) (pos j) (pos (suc n)) parted
+      (nonneg-pos i) (nonneg-pos j) (pos-mono (omega arith)) (h .im) (subst (λ t. Size t b) (moved-im z w (pos (suc n))) (k .im)));
+}
+  where
+    j : ℕ
+    j = suc n - i
+
+    parted : pos (suc n) ≡ pos i +ℤ pos j
+    parted = ap pos whole
+      where
+        whole : suc n ≡ i + (suc n - i)
+        whole = omega arith
 
 -- a digit times z
 pub parts-digit : {d z : 𝔾} {b : ℤ} → Parts d (pos 1) → Parts z b → Parts (d *ᵍ z) (b +ℤ b)

@@ -1,6 +1,6 @@
 -- Lengths by their squares: z is within r where N z ≤ r² and r is not negative. Sum, difference, product, power, sum over an index,
 -- scaling, weakening, and a positive factor left out.
-use mathlib.Core.Path.{_≡_, sym, _∙_, ap, subst}
+use mathlib.Core.Path.{_≡_, refl, sym, _∙_, ap, subst}
 use mathlib.Core.List.{List, [], _∷_}
 use Prim.Native.Nat.{ℕ, zero, suc, _^_, _<_}
 use native.Mathlib.Nat.{pow-zero, pow-suc}
@@ -127,3 +127,7 @@ pw-mono {a} {b} h g (suc n) = lin (pw ℤR a n ∷ pw ℤR b n ∷ a ∷ b ∷ [
 pub pw-pos : (m n : ℕ) → pw ℤR (pos m) n ≡ pos (m ^ n)
 pw-pos m zero = ap pos (sym (pow-zero m))
 pw-pos m (suc n) = ap (λ t. t *ℤ pos m) (pw-pos m n) ∙ ap pos (sym (pow-suc m n))
+
+pub pw-one : (n : ℕ) → pw ℤR (pos 1) n ≡ pos 1
+pw-one zero = refl
+pw-one (suc n) = ap (λ t. t *ℤ pos 1) (pw-one n)

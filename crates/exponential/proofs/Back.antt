@@ -1,7 +1,7 @@
--- For the code: what an exponent and a start are brought back to, at the width 48, fits.
-use mathlib.Core.Path.{_≡_, refl, sym, _∙_, ap, ap₂, subst}
+-- For the code: what an exponent is brought back to, at the width 48, fits.
+use mathlib.Core.Path.{_≡_, sym, ap, ap₂, subst}
 use mathlib.Core.List.{[], _∷_}
-use Prim.Native.Nat.{ℕ, _%_, _≤_, _^_, _<_}
+use Prim.Native.Nat.{ℕ, _%_, _≤_, _<_}
 use native.Mathlib.Nat.{mod-lt}
 use native.Mathlib.Omega.{arith}
 use lib.Dec.{lit<}
@@ -13,45 +13,17 @@ use Rattle.algebra.specs.Gauss.{𝔾, gi, two}
 use Rattle.algebra.specs.Order.{_⩽_}
 use Rattle.algebra.specs.Size.{Size, Parts}
 use Rattle.algebra.proofs.Reify.{reify}
-use Rattle.algebra.proofs.Order.{⩽-antisym, nonneg-pos, pos-mono, pos-inj-le}
+use Rattle.algebra.proofs.Order.{⩽-antisym, nonneg-pos, pos-inj-le}
 use Rattle.algebra.proofs.Linear.{lin, _&_, _&≡_, _&ℕ_, none}
 use Rattle.algebra.proofs.Parts.{size-add, size-neg, size-mul, parts-weaken}
 use Rattle.word.proofs.Fits.{word-pos, sfits-size, sfits-pos}
-use Rattle.point.specs.declared.Point.{Point}
 use Rattle.point.specs.Point.{point, nought}
 use Rattle.table_numbers.specs.Numbers48.{constants48}
 use Rattle.table_numbers.proofs.Promise48.{constants-promise}
 use Rattle.exponential.specs.Reduction.{eight, factor, eighths, turned-re, doublings, left-over}
 use Rattle.exponential.specs.Code.{NearestPre}
-use Rattle.exponential.proofs.Reduced.{split, eighths-size, doublings-size, left-re, left-im}
+use Rattle.exponential.proofs.Reduced.{eighths-size, doublings-size, left-re, left-im}
 use Rattle.exponential.proofs.Divided.{odd-at, factor-at}
-
--- ---- the start times the factor
-pub record TimesFits (s d : 𝔾) : Type 0 where
-  pub x : SFits w64 (s .re)
-  pub y : SFits w64 (s .im)
-  pub dx : SFits w64 (d .re)
-  pub dy : SFits w64 (d .im)
-  pub x-dx : SFits w64 (s .re *ℤ d .re)
-  pub y-dy : SFits w64 (s .im *ℤ d .im)
-  pub x-dy : SFits w64 (s .re *ℤ d .im)
-  pub y-dx : SFits w64 (s .im *ℤ d .re)
-  pub re : SFits w64 (s .re *ℤ d .re -ℤ s .im *ℤ d .im)
-  pub im : SFits w64 (s .re *ℤ d .im +ℤ s .im *ℤ d .re)
-
-pub times-fits : {s d : 𝔾} → Parts s (two 58) → Parts d (pos 1) → TimesFits s d
-times-fits h g = record {
-  x = sfits-size (h .re) tt;
-  y = sfits-size (h .im) tt;
-  dx = sfits-size (g .re) tt;
-  dy = sfits-size (g .im) tt;
-  x-dx = sfits-size (size-mul (h .re) (g .re)) tt;
-  y-dy = sfits-size (size-mul (h .im) (g .im)) tt;
-  x-dy = sfits-size (size-mul (h .re) (g .im)) tt;
-  y-dx = sfits-size (size-mul (h .im) (g .re)) tt;
-  re = sfits-size (size-add (size-mul (h .re) (g .re)) (size-neg (size-mul (h .im) (g .im)))) tt;
-  im = sfits-size (size-add (size-mul (h .re) (g .im)) (size-mul (h .im) (g .re))) tt;
-}
 
 -- ---- the exponent: the constants as the code has them
 abbrev Q : ℤ
@@ -173,9 +145,6 @@ module _ (x y : ℤ) (far : Parts (gi x y) (two 51)) where
     -- the factor
     pub factor-is : getD eight (p % 8) nought ≡ factor (eighths constants48 e)
     factor-is = sym (factor-at (eighths constants48 e) p p-is)
-
-    pub factor-parts : Parts (getD eight (p % 8) nought) (pos 1)
-    factor-parts = subst (λ f. Parts f (pos 1)) (sym factor-is) (split (eighths constants48 e) p-size .parts)
 
     module _ (k : ℕ) (k-is : pos k ≡ doublings constants48 e +ℤ pos 16) where
       doublings-are : pos k -ℤ pos 16 ≡ doublings constants48 e

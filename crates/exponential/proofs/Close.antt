@@ -32,7 +32,7 @@ use Rattle.table_numbers.proofs.Promise48.{constants-promise}
 use Rattle.tables.proofs.Promises.{step-promise}
 use Rattle.iteration.specs.Run.{state}
 use Rattle.exponential.specs.declared.reduction.Reduced.{Reduced}
-use Rattle.exponential.specs.Reduction.{inRectangle, inReach, reduced, unreduced, reduction}
+use Rattle.exponential.specs.Reduction.{inReach, reduced, unreduced, reduction}
 use Rattle.exponential.specs.Answer.{ended, figures, answer, errorBound, expAnswer, up, miss, allowed, CloseAt, CloseFor, Close}
 use Rattle.exponential.proofs.Convergence.{Rectangle, Below, converges}
 use Rattle.exponential.proofs.Error.{exp-error}

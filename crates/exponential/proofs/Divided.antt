@@ -18,7 +18,7 @@ use Rattle.algebra.proofs.Integer.{ℤR}
 use Rattle.algebra.proofs.Reify.{ring!, reify}
 use Rattle.algebra.proofs.Order.{⩽-antisym, nonneg-pos, nonneg-mul, pos-inj-le}
 use Rattle.algebra.proofs.Linear.{lin, _&_, _&≡_, none}
-use Rattle.algebra.proofs.Floor.{floor-lo, floor-hi, floor-unique, nearest-lo, nearest-hi}
+use Rattle.algebra.proofs.Floor.{floor-lo, floor-hi, floor-unique, nearest-shifted}
 use Rattle.algebra.proofs.Parts.{size-add}
 use Rattle.word.proofs.Fits.{sfits-size}
 use Rattle.word.proofs.Compare.{le-ltZ}
@@ -26,12 +26,6 @@ use Rattle.word.proofs.Bits.{Nonnegative, nonnegative}
 use Rattle.point.specs.Point.{nought}
 use Rattle.exponential.specs.Reduction.{modulo, eight, factor}
 use Rattle.exponential.specs.Code.{NearestPre}
-
--- c whole multiples more
-nearest-shifted : (m : ℕ) → 0 < m → (z c : ℤ) → shrZ (pos 2 *ℤ z +ℤ pos m +ℤ pos 2 *ℤ pos m *ℤ c) (2 * m) ≡ nearest z m +ℤ c
-nearest-shifted m h z c = floor-unique (2 * m) (omega arith) (pos 2 *ℤ z +ℤ pos m +ℤ pos 2 *ℤ pos m *ℤ c) (nearest z m +ℤ c)
-    (lin (z ∷ c ∷ pos m ∷ nearest z m ∷ []) (nearest-lo m h z & none) (search reify depth 20) tt)
-    (lin (z ∷ c ∷ pos m ∷ nearest z m ∷ []) (nearest-hi m h z & none) (search reify depth 20) tt)
 
 -- v is 2·x + 33·m
 pub nearest-divided : (m : ℕ) → 0 < m → (x : ℤ) (v : ℕ) → pos v ≡ pos 2 *ℤ x +ℤ pos 33 *ℤ pos m → pos (v / (2 * m)) ≡ nearest x m +ℤ pos 16

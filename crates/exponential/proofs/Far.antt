@@ -25,7 +25,6 @@ use Rattle.exponential.specs.Reduction.{factor, eighths, doublings, left
 use Rattle.exponential.specs.Answer.{up, down, ended, miss, allowed}
 use Rattle.exponential.proofs.Error.{exp-error-share}
 use Rattle.exponential.proofs.Reduced.{odd, split, eighths-size, left-rectangle}
-use Rattle.exponential.proofs.Moves.{gap}
 use Rattle.exponential.proofs.Outward.{outward}
 
 -- a start is at most as long as the start times the factor
@@ -73,7 +72,7 @@ module _ (F M : ℕ) (wide : 16 ≤ F) (narrow : F ≤ 48) (room : M + 8 ≤ F) 
 
     -- what the reduction is off by, in 1/70 of the start
     abbrev off : 𝔾
-    off = gap F T r s₇₀ e (s₇₀ *ᵍ f *ᵍ twoᵍ (up k)) (two (down k))
+    off = twoᵍ (down k) *ᵍ s₇₀ *ᵍ Sᵍ (2 ^ F) T e -ᵍ s₇₀ *ᵍ f *ᵍ twoᵍ (up k) *ᵍ Sᵍ (2 ^ F) T r
 
     reduction-share : (n : ℕ) → n ≤ M → Within (twoᵍ n *ᵍ off) (pos 14 *ℤ m *ℤ two (up k) *ℤ δ)
     reduction-share n h = within-ratio off (two F) (two n) (two≥1 F) (nonneg-pos (2 ^ n))

@@ -17,13 +17,14 @@ use Rattle.word.specs.Compare.{between}
 use Rattle.word.proofs.Compare.{is-between}
 use Rattle.point.specs.Point.{gauss}
 use Rattle.point.specs.Limits.{inBox, inParts}
+use Rattle.point.proofs.Digits.{digit-parts}
 use Rattle.point.proofs.InLimits.{box-says, parts-say}
 use Rattle.table_numbers.specs.Promise.{Constants}
 use Rattle.table_numbers.proofs.Promises.{ConstantsPromise}
 use Rattle.exponential.specs.declared.reduction.Reduced.{Reduced}
 use Rattle.exponential.specs.Reduction.{inRectangle, inReach, factor, eighths, reduced, unreduced, reduction}
 use Rattle.exponential.proofs.Convergence.{Rectangle}
-use Rattle.exponential.proofs.Reduced.{split, eighths-size, doublings-size, left-rectangle}
+use Rattle.exponential.proofs.Reduced.{factor-digit, doublings-size, left-rectangle}
 
 -- ---- what the tests of the exponent say
 pub rectangle-says : (F : ℕ) (e : 𝔾) → 6 ≤ F → inRectangle F e ≡ true → Rectangle F e
@@ -97,20 +98,18 @@ module _ (F : ℕ) (wide : 6 ≤ F) (c : Constants) (promise : ConstantsPromise 
   given-rectangle = by-rectangle (λ _ r. Rectangle F (gauss (r .exponent))) F c e s
       (λ h. rectangle-says F e wide h) (λ _. left-rectangle F wide c promise e)
 
-  module _ (reach : inReach F e ≡ true) where
-    -- the factor's parts are at most one in size
-    pub turned-start : {b : ℤ} → Parts s b → Parts (s *ᵍ factor (eighths c e)) (pos 2 *ℤ b)
-    turned-start {b} h = parts-weaken
-        (subst (λ z. Parts z (b +ℤ b)) (g-mul-comm (factor (eighths c e)) s)
-        (parts-digit (split (eighths c e) (eighths-size F wide c promise e (reach-says F e reach)) .parts) h))
-        (lin (b ∷ []) none (search reify depth 20) tt)
+  -- the factor is a digit
+  turned-start : {b : ℤ} → Parts s b → Parts (s *ᵍ factor (eighths c e)) (pos 2 *ℤ b)
+  turned-start {b} h = parts-weaken
+      (subst (λ z. Parts z (b +ℤ b)) (g-mul-comm (factor (eighths c e)) s) (parts-digit (digit-parts (factor-digit (eighths c e))) h))
+      (lin (b ∷ []) none (search reify depth 20) tt)
 
-    pub given-start : inParts F s ≡ true → Parts (gauss (reduction F c e s .start)) (two (F + 11))
-    given-start h = by-rectangle (λ _ r. Parts (gauss (r .start)) (two (F + 11))) F c e s
-        (λ _. parts-weaken (parts-say F s h) (two-mono (F + 10) (F + 11) (omega arith)))
-        (λ _. parts-weaken (turned-start (parts-say F s h)) (two-mul-le 1 (F + 10) (F + 11) (omega arith)))
+  pub given-start : inParts F s ≡ true → Parts (gauss (reduction F c e s .start)) (two (F + 11))
+  given-start h = by-rectangle (λ _ r. Parts (gauss (r .start)) (two (F + 11))) F c e s
+      (λ _. parts-weaken (parts-say F s h) (two-mono (F + 10) (F + 11) (omega arith)))
+      (λ _. parts-weaken (turned-start (parts-say F s h)) (two-mul-le 1 (F + 10) (F + 11) (omega arith)))
 
-    pub given-exponent : Size (reduction F c e s .«binary_exponent») (pos 12)
-    given-exponent = by-rectangle (λ _ r. Size (r .«binary_exponent») (pos 12)) F c e s
-        (λ _. record { lo = record { le = tt }; hi = record { le = tt } })
-        (λ _. doublings-size F wide c promise e (reach-says F e reach))
+  pub given-exponent : inReach F e ≡ true → Size (reduction F c e s .«binary_exponent») (pos 12)
+  given-exponent reach = by-rectangle (λ _ r. Size (r .«binary_exponent») (pos 12)) F c e s
+      (λ _. record { lo = record { le = tt }; hi = record { le = tt } })
+      (λ _. doublings-size F wide c promise e (reach-says F e reach))

@@ -84,7 +84,7 @@ module _ (F : ℕ) (wide : 6 ≤ F) (t : StepTable) (c : Constants) (promise : C
       count = steps-say F 1 n a
 
       given : Parts s₁ (two (F + 11))
-      given = given-start F wide c promise e s b d
+      given = given-start F wide c promise e s d
 
       M≥0 : pos 0 ⩽ larger s₁
       M≥0 = size-sign (larger-parts s₁ .re)

@@ -1,14 +1,12 @@
 -- What the reduction gives (02, E5), over any width F with constants that keep their promise (table_numbers, Promises): p and k are small,
 -- the factor is (1 + b·i)·i^a with p = 2·a + b, and the reduced exponent lies within the rectangle.
-use mathlib.Core.Path.{_≡_, _∙_, ap}
+use mathlib.Core.Path.{_≡_, ap, subst}
 use mathlib.Core.List.{List, [], _∷_}
 use mathlib.Core.Bool.{Bool}
 use mathlib.Core.Logic.{_⊎_, inl, inr, ⊎-elim}
-use Prim.Native.Nat.{ℕ, suc, _/_, _%_, _^_, _-_, _≤_, _<_}
-use native.Mathlib.Nat.{div-add-mod}
-use native.Mathlib.Omega.{arith}
+use Prim.Native.Nat.{ℕ, zero, suc, _^_, _-_, _≤_, _<_}
 use lib.Dec.{T, lit<}
-use lib.IntN.{ℤ, pos, negsuc, negℤ, natAbs, _+ℤ_, _-ℤ_, _*ℤ_}
+use lib.IntN.{ℤ, pos, negsuc, natAbs, _+ℤ_, _-ℤ_, _*ℤ_}
 use lib.ListN.{getD}
 use lib.Signed.{shrZ}
 use Rattle.algebra.specs.Gauss.{𝔾, gi, ιᵍ, iᵍ, negᵍ, _*ᵍ_, _^ᵍ_, N, two}
@@ -17,16 +15,18 @@ use Rattle.algebra.specs.Rounding.{nearest}
 use Rattle.algebra.specs.Size.{Within, Size, Parts}
 use Rattle.algebra.proofs.Test.{all}
 use Rattle.algebra.proofs.Range.{les, Les, les-say, all-from}
+use Rattle.algebra.proofs.Integer.{ℤR}
 use Rattle.algebra.proofs.Gauss.{gi-path}
-use Rattle.algebra.proofs.Reify.{reify}
+use Rattle.algebra.proofs.Reify.{ring!, reify}
 use Rattle.algebra.proofs.Order.{⩽-antisym, nonneg-pos, nonneg-mul, nonneg-sq, sub-nonneg, le-or-gt, pos-inj-le}
-use Rattle.algebra.proofs.Linear.{lin, lin-false, _&_, _&≡_, none}
+use Rattle.algebra.proofs.Linear.{lin, _&_, _&≡_, none}
 use Rattle.algebra.proofs.Power.{two≥1, two-whole}
-use Rattle.algebra.proofs.Floor.{floor-lo, floor-hi, floor-unique, nearest-lo, nearest-hi}
-use Rattle.algebra.proofs.Parts.{size-sq}
+use Rattle.algebra.proofs.Floor.{floor-lo, floor-hi}
+use Rattle.algebra.proofs.Parts.{size-neg, size-sq, size-off, size-multiple}
 use Rattle.algebra.proofs.Within.{within-ratio}
 use Rattle.series.specs.Series.{D, Sᵍ, Dᶻ}
 use Rattle.series.proofs.Laws.{laws-far}
+use Rattle.point.specs.Digit.{IsDigit, t-, t0, t+}
 use Rattle.point.specs.Point.{nought}
 use Rattle.table_numbers.specs.Promise.{Constants}
 use Rattle.table_numbers.proofs.Promises.{ConstantsPromise}
@@ -56,7 +56,23 @@ module _ (p : ℤ) where
     hi = lin (p ∷ shrZ p 2 ∷ []) (floor-lo 2 (lit< tt) p & h .hi & none) (search reify depth 20) tt;
   }
 
--- ---- the factor is (1 + b·i)·i^a: one computed test
+-- ---- the factor: a digit
+pub eight-digit : (i : ℕ) → IsDigit (getD eight i nought)
+eight-digit zero = record { x = t+; y = t0 }
+eight-digit (suc zero) = record { x = t+; y = t+ }
+eight-digit (suc (suc zero)) = record { x = t0; y = t+ }
+eight-digit (suc (suc (suc zero))) = record { x = t-; y = t+ }
+eight-digit (suc (suc (suc (suc zero)))) = record { x = t-; y = t0 }
+eight-digit (suc (suc (suc (suc (suc zero))))) = record { x = t-; y = t- }
+eight-digit (suc (suc (suc (suc (suc (suc zero)))))) = record { x = t0; y = t- }
+eight-digit (suc (suc (suc (suc (suc (suc (suc zero))))))) = record { x = t+; y = t- }
+eight-digit (suc (suc (suc (suc (suc (suc (suc (suc i)))))))) = record { x = t0; y = t0 }
+
+pub factor-digit : (p : ℤ) → IsDigit (factor p)
+unfolding factor
+factor-digit p = eight-digit (natAbs (modulo p 8))
+
+-- and it is (1 + b·i)·i^a: one computed test
 unfoldable pub quarter-turns : ℤ → 𝔾
 quarter-turns (pos n) = iᵍ ^ᵍ n
 quarter-turns (negsuc n) = negᵍ iᵍ ^ᵍ suc n
@@ -66,8 +82,7 @@ split-facts p =
     let f = factor p in
     let o = gi (pos 1) (odd p) in
     let g = o *ᵍ quarter-turns (halved p) in
-    (f .re, g .re) ∷ (g .re, f .re) ∷ (f .im, g .im) ∷ (g .im, f .im) ∷ (N f, N o) ∷ (N o, N f)
-    ∷ (negsuc 0, f .re) ∷ (f .re, pos 1) ∷ (negsuc 0, f .im) ∷ (f .im, pos 1) ∷ []
+    (f .re, g .re) ∷ (g .re, f .re) ∷ (f .im, g .im) ∷ (g .im, f .im) ∷ (N f, N o) ∷ (N o, N f) ∷ []
 
 split-test : ℤ → Bool
 split-test p = les (split-facts p)
@@ -79,7 +94,6 @@ split-all = tt
 pub record Split (p : ℤ) : Type 0 where
   pub is : factor p ≡ gi (pos 1) (odd p) *ᵍ quarter-turns (halved p)
   pub length : N (factor p) ≡ N (gi (pos 1) (odd p))
-  pub parts : Parts (factor p) (pos 1)
 
 pub split : (p : ℤ) → Size p (pos 10) → Split p
 unfolding split-test
@@ -87,32 +101,11 @@ split p h = said (les-say (split-facts p)
     (all-from (negsuc 9) 21 split-test split-all p (h .lo) (lin (p ∷ []) (h .hi & none) (search reify depth 20) tt)))
   where
     said : Les (split-facts p) → Split p
-    said (a, (b, (c, (d, (e, (f, (l, (r, (o, (u, _)))))))))) = record {
-      is = gi-path (⩽-antisym a b) (⩽-antisym c d);
-      length = ⩽-antisym e f;
-      parts = record { re = record { lo = l; hi = r }; im = record { lo = o; hi = u } };
-    }
+    said (a, (b, (c, (d, (e, (f, _)))))) = record { is = gi-path (⩽-antisym a b) (⩽-antisym c d); length = ⩽-antisym e f }
 
--- ---- the nearest multiple: how many, and what is left
--- |z| ≤ c and 2·c < (2·n + 1)·m give a nearest multiple of at most n
-count : (m n : ℕ) → 0 < m → (z c : ℤ) → Size z c → pos 2 *ℤ c +ℤ pos 1 ⩽ (pos 2 *ℤ pos n +ℤ pos 1) *ℤ pos m → Size (nearest z m) (pos n)
-count m n h z c s few = record {
-  lo = ⊎-elim (λ k. k) (λ k. absurd (lin-false ρ
-      (nearest-hi m h z & s .lo & few & nonneg-mul (nonneg-pos m) (sub-nonneg k) & none) (search reify depth 20) tt))
-      (le-or-gt (negℤ (pos n)) (nearest z m));
-  hi = ⊎-elim (λ k. k) (λ k. absurd (lin-false ρ
-      (nearest-lo m h z & s .hi & few & nonneg-mul (nonneg-pos m) (sub-nonneg k) & none) (search reify depth 20) tt))
-      (le-or-gt (nearest z m) (pos n));
-}
-  where
-    ρ : List ℤ
-    ρ = pos m ∷ pos n ∷ z ∷ c ∷ nearest z m ∷ []
-
+-- what is left of a nearest multiple
 remains : (m : ℕ) → 0 < m → (z : ℤ) → Size (pos 2 *ℤ (z -ℤ nearest z m *ℤ pos m)) (pos m)
-remains m h z = record {
-  lo = lin (pos m ∷ z ∷ nearest z m ∷ []) (nearest-lo m h z & none) (search reify depth 20) tt;
-  hi = lin (pos m ∷ z ∷ nearest z m ∷ []) (nearest-hi m h z & none) (search reify depth 20) tt;
-}
+remains m h z = subst (λ t. Size t (pos m)) (ring! ℤR (pos m ∷ z ∷ nearest z m ∷ []) (search reify depth 20) tt) (size-neg (size-off m h z))
 
 module _ (F : ℕ) (wide : 6 ≤ F) (k : Constants) (promise : ConstantsPromise F k) (e : 𝔾) where
   abbrev U : ℤ
@@ -195,7 +188,7 @@ module _ (F : ℕ) (wide : 6 ≤ F) (k : Constants) (promise : ConstantsPromise 
   module _ (far : Parts e (pos 8 *ℤ U)) where
     pub eighths-size : Size (eighths k e) (pos 10)
     unfolding eighths
-    eighths-size = count (k .quarter-pi) 10 Q>0 (e .im) (pos 8 *ℤ U) (far .im)
+    eighths-size = size-multiple (k .quarter-pi) 10 Q>0 (e .im) (pos 8 *ℤ U) (far .im)
         (lin (Q ∷ U ∷ []) (promise .quarter-pi-low & two≥1 F & none) (search reify depth 20) tt)
 
     turned-size : Size (turned-re k e) (pos 8 *ℤ U +ℤ R)
@@ -212,5 +205,5 @@ module _ (F : ℕ) (wide : 6 ≤ F) (k : Constants) (promise : ConstantsPromise 
 
     pub doublings-size : Size (doublings k e) (pos 12)
     unfolding doublings
-    doublings-size = count (k .ln-2) 12 H>0 (turned-re k e) (pos 8 *ℤ U +ℤ R) turned-size
+    doublings-size = size-multiple (k .ln-2) 12 H>0 (turned-re k e) (pos 8 *ℤ U +ℤ R) turned-size
         (lin (H ∷ R ∷ U ∷ []) (promise .ln-2-low & promise .half-ln-2-high & two≥1 F & none) (search reify depth 20) tt)

@@ -1,6 +1,6 @@
 -- THE SEAM: at an exponent of the rectangle the reduction's answer, times 2^k, and the plain one differ in each part by at most both error
 -- bounds. So at the rectangle's edge, where the one gives way to the other, the answer does not jump by more.
-use mathlib.Core.Path.{_≡_, subst}
+use mathlib.Core.Path.{subst}
 use mathlib.Core.List.{[], _∷_}
 use Prim.Native.Nat.{ℕ, _-_, _^_, _≤_}
 use native.Mathlib.Omega.{arith}
@@ -13,7 +13,7 @@ use Rattle.algebra.proofs.Order.{nonneg-pos, pos-mono}
 use Rattle.algebra.proofs.Linear.{lin, none}
 use Rattle.algebra.proofs.Power.{two-pos}
 use Rattle.algebra.proofs.Parts.{abs-size, parts-add, parts-neg, parts-scale, parts-weaken, parts-cancel}
-use Rattle.series.specs.Series.{D, Sᵍ, Dᵍ, Dᶻ}
+use Rattle.series.specs.Series.{Sᵍ, Dᵍ, Dᶻ}
 use Rattle.series.proofs.Series.{D-pos}
 use Rattle.point.specs.Point.{gauss}
 use Rattle.table_numbers.specs.Promise.{StepTable, Constants}
@@ -30,7 +30,8 @@ module _ (F n T : ℕ) (k : ℤ) (e s s₁ a a₁ : 𝔾) (plain : CloseAt F n T
   δ = Dᶻ (2 ^ F) T
 
   pub together : Parts (twoᵍ (up k) *ᵍ a₁ -ᵍ twoᵍ (down k) *ᵍ a) (errorBound n s₁ *ℤ two (up k) +ℤ errorBound n s *ℤ two (down k))
-  together = parts-cancel δ (pos-mono (D-pos (2 ^ F) (two-pos F) T)) (subst (λ z. Parts z (δ *ℤ (errorBound n s₁ *ℤ two (up k) +ℤ errorBound n s *ℤ two (down k))))
+  together = parts-cancel δ (pos-mono (D-pos (2 ^ F) (two-pos F) T))
+      (subst (λ z. Parts z (δ *ℤ (errorBound n s₁ *ℤ two (up k) +ℤ errorBound n s *ℤ two (down k))))
       (ring! 𝔾R (twoᵍ (up k) ∷ twoᵍ (down k) ∷ Dᵍ (2 ^ F) T ∷ a ∷ a₁ ∷ s ∷ Sᵍ (2 ^ F) T e ∷ []) (search reifyᵍ depth 20) tt)
       (parts-weaken (parts-add off (parts-neg (parts-scale (two (down k)) (nonneg-pos (2 ^ down k)) off₀)))
       (lin (errorBound n s₁ ∷ errorBound n s ∷ two (up k) ∷ two (down k) ∷ δ ∷ []) none (search reify depth 20) tt)))

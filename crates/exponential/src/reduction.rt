@@ -7,6 +7,7 @@ ghost use Prim.Native.Nat.{_%_};
 ghost use Rattle.algebra.specs.Gauss.{_*ᵍ_, two};
 ghost use Rattle.algebra.specs.Rounding.{nearest};
 ghost use Rattle.algebra.specs.Size.{Parts};
+ghost use Rattle.point.specs.Digit.{IsDigit};
 ghost use Rattle.point.specs.Point.{gauss, gaussᵈ, point, nought};
 ghost use Rattle.table_numbers.specs.Numbers48.{constants48};
 ghost use Rattle.exponential.specs.Reduction.{inRectangle, inReach, eight, reduced, reduction};
@@ -78,8 +79,8 @@ fn factor(p: usize) -> Digit
 }
 
 fn times(s: Point, d: Digit) -> Point
-    requires { ⌜ Parts (gauss s) (two 58) ⌝ }
-    requires { ⌜ Parts (gaussᵈ d) (pos 1) ⌝ }
+    requires { ⌜ Parts (gauss s) (two 61) ⌝ }
+    requires { ⌜ IsDigit (gaussᵈ d) ⌝ }
     ensures { λ r. ⌜ r ≡ point (gauss s *ᵍ gaussᵈ d) ⌝ }
 {
     let x = s.x;
@@ -87,8 +88,8 @@ fn times(s: Point, d: Digit) -> Point
     let dx = d.dx;
     let dy = d.dy;
     Point {
-        x: x * dx - y * dy,
-        y: x * dy + y * dx,
+        x: dx * x - dy * y,
+        y: dx * y + dy * x,
     }
 }
 

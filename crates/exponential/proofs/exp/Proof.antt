@@ -120,7 +120,7 @@ module _ (c : tie.After-reduce) where
 
   small : Parts (gauss (c .reduce .result .start)) (two 59)
   small = subst (λ r. Parts (gauss (r .start)) (two 59)) (sym given)
-      (given-start 48 (omega arith) constants48 constants-promise e s (passed .reach) (passed .start))
+      (given-start 48 (omega arith) constants48 constants-promise e s (passed .start))
 
   fits : Fits 48 stepTable Exp 0 N (state (gauss (c .reduce .result .start)) (gauss (c .reduce .result .exponent)))
   fits = run-fits 48 (omega arith) (omega arith) stepTable step-promise N (gauss (c .reduce .result .exponent))

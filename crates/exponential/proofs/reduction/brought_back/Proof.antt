@@ -1,17 +1,19 @@
 -- `exponential::reduction::brought_back` meets its contract.
 use mathlib.Core.Path.{_≡_, _∙_, ap}
-use Prim.Native.Nat.{ℕ}
+use Prim.Native.Nat.{ℕ, _%_}
 use lib.IntN.{ℤ, pos, _+ℤ_}
 use mir.Syntax.{w64}
 use mir.Val.{SFits}
 use borrow.Author.Needs.{needs}
 use Rattle.algebra.specs.Gauss.{gi, _*ᵍ_}
 use Rattle.algebra.specs.Rounding.{nearest}
+use Rattle.algebra.proofs.Parts.{parts-weaken}
 use Rattle.word.proofs.Fits.{back, sfits-size}
 use Rattle.point.specs.Point.{gauss, point}
 use Rattle.table_numbers.specs.Numbers48.{constants48}
 use Rattle.exponential.specs.Reduction.{factor, eighths, doublings}
-use Rattle.exponential.proofs.Back.{turns-pre, TurnedFits, turned-fits, turned-is, factor-is, factor-parts, LeftFits, left-fits}
+use Rattle.exponential.proofs.Reduced.{eight-digit}
+use Rattle.exponential.proofs.Back.{turns-pre, TurnedFits, turned-fits, turned-is, factor-is, LeftFits, left-fits}
 use Rattle.exponential.proofs.reduction.brought_back.Statement.{statement}
 use Rattle.exponential.proofs.reduction.brought_back.Tie as tie
 
@@ -103,8 +105,7 @@ factor-requires c κs = search needs
 times-requires : tie.Need-times-requires
 times-requires c κs =
     let n = c .before .before in
-    let s = n .before .before .before in
-    (s .pre .1, rw (c .factor .ensures) (factor-parts (x s) (y s) (s .pre .0) (p-of n) (p-is n)))
+    (parts-weaken (n .before .before .before .pre .1) (record { le = tt }), rw (c .factor .ensures) (eight-digit (p-of n % 8)))
 
 returns : tie.Need-returns
 returns c =

@@ -1,18 +1,23 @@
--- `exponential::reduction::times` meets its contract.
+-- `exponential::reduction::times` meets its contract: its products are those of a step by the same digit.
+use mathlib.Core.Path.{ap}
 use borrow.Author.Needs.{needs}
 use Rattle.algebra.specs.Gauss.{_*ᵍ_}
+use Rattle.algebra.proofs.Gauss.{g-mul-comm}
 use Rattle.word.proofs.Fits.{back}
-use Rattle.point.specs.Point.{gauss, gaussᵈ}
-use Rattle.exponential.proofs.Back.{TimesFits, times-fits}
+use Rattle.point.specs.Point.{gauss, gaussᵈ, point}
+use Rattle.point.proofs.Fits.{StepFits, step-fits}
 use Rattle.exponential.proofs.reduction.times.Statement.{statement}
 use Rattle.exponential.proofs.reduction.times.Tie as tie
 
-abbrev facts : (c : tie.After-struct-told4) → let s = c .before .before .before .before in TimesFits (gauss (s .args .s)) (gaussᵈ (s .args .d))
-facts c = let s = c .before .before .before .before in times-fits (s .pre .0) (s .pre .1)
+abbrev facts : (c : tie.After-struct-told4) → let s = c .before .before .before .before in StepFits 0 (gaussᵈ (s .args .d)) (gauss (s .args .s))
+facts c = let s = c .before .before .before .before in step-fits 0 (s .pre .1) (s .pre .0)
 
 returns : tie.Need-returns
 unfolding _*ᵍ_
-returns c = let f = facts c in simp (back, f .x, f .y, f .dx, f .dy, f .x-dx, f .y-dy, f .x-dy, f .y-dx, f .re, f .im)
+returns c =
+    let a = c .before .before .before .before .args in
+    let f = facts c in
+    simp (back, f .x, f .y, f .dx, f .dy, f .dx-x, f .dy-y, f .dx-y, f .dy-x, f .re, f .im) (ap point (g-mul-comm (gaussᵈ (a .d)) (gauss (a .s))))
 
 mul-t7 : tie.Need-mul-t7
 mul-t7 c = let f = facts c in search needs
