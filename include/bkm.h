@@ -43,8 +43,8 @@ extern "C" {
  *     ex, ey        at most 2^51 in size, that is 8
  *     sx, sy        at most 2^58 in size
  *
- * The value is 2^k times the answer; each part of it is off by at most 2^k times the
- * error bound, which is 8*M/2^n rounded up, plus 2*n.
+ * The product is 2^k times the two parts of the answer, nearly: each part is off by at
+ * most 2^k times the error bound, which is 8*M/2^n rounded up, plus 2*n.
  *
  * k is 0 and M is the larger of the sizes of sx and sy where the exponent lies in a
  * rectangle around nought: ex from -233096465088512 to 241892558110720, that is -53/64 to

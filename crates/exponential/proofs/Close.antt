@@ -1,5 +1,5 @@
 -- What is proved of the answer: when each is given, convergence, and that it is close, at the width 48 with no hypothesis left.
-use mathlib.Core.Path.{_≡_, sym, subst}
+use mathlib.Core.Path.{_≡_, sym, ap, subst}
 use mathlib.Core.Bool.{true, false, cond}
 use mathlib.Core.List.{[], _∷_}
 use Prim.Native.Nat.{ℕ, _+_, _-_, _^_, _≤_}
@@ -30,10 +30,11 @@ use Rattle.table_numbers.specs.Table.{stepTable}
 use Rattle.table_numbers.proofs.Promises.{StepPromise, ConstantsPromise}
 use Rattle.table_numbers.proofs.Promise48.{constants-promise}
 use Rattle.tables.proofs.Promises.{step-promise}
-use Rattle.iteration.specs.Run.{state}
+use Rattle.iteration.specs.declared.Mode.the-variants.{Exp}
+use Rattle.iteration.specs.Run.{state, run}
 use Rattle.exponential.specs.declared.reduction.Reduced.{Reduced}
-use Rattle.exponential.specs.Reduction.{inReach, reduced, unreduced, reduction}
-use Rattle.exponential.specs.Answer.{ended, figures, answer, errorBound, expAnswer, up, miss, allowed, CloseAt, CloseFor, Close}
+use Rattle.exponential.specs.Reduction.{inRectangle, inReach, reduced, unreduced, reduction}
+use Rattle.exponential.specs.Answer.{ended, figuresFrom, figures, answer, errorBound, expAnswer, up, miss, allowed, CloseAt, CloseFor, Close}
 use Rattle.exponential.proofs.Convergence.{Rectangle, Below, converges}
 use Rattle.exponential.proofs.Error.{exp-error}
 use Rattle.exponential.proofs.Given.{rectangle-says, reach-says, by-rectangle, given-rectangle}
@@ -64,20 +65,32 @@ module _ (F : ℕ) (t : StepTable) (c : Constants) (n : ℤ) (e s : 𝔾) where
   unfolding answer
   answered a = rw (a .steps, a .reach, a .start)
 
+  -- "Inside the old rectangle each answer remains the same", whatever the constants are: the steps of the exponent itself, on the start
+  -- itself, with its error bound, and k is 0
+  pub same-inside : inRectangle F e ≡ true → figures F t c (natAbs n) e s
+      ≡ record {
+        value = run F t Exp 0 (natAbs n) (state s e) .point;
+        «binary_exponent» = pos 0;
+        quadrant = pos 0;
+        «error_bound» = errorBound (natAbs n) s;
+      }
+  unfolding reduction
+  same-inside h = ap (λ b. figuresFrom F t (natAbs n) (cond b (unreduced e s) (reduced c e s))) h
+
 module _ (F : ℕ) (wide : 16 ≤ F) (narrow : F ≤ 48) (t : StepTable) (table : StepPromise F (F - 8) t)
     (c : Constants) (promise : ConstantsPromise F c) where
   room : F - 8 + 8 ≤ F
   room = omega arith
 
   -- "after n steps, each exponent part is below 1/2^n in size"
-  pub exponent-below : (e s : 𝔾) (n : ℕ) → n ≤ F - 8 → Below (gauss (ended F t c n (reduction F c e s) .sum)) (two (F - n))
+  pub exponent-below : (e s : 𝔾) (n : ℕ) → n ≤ F - 8 → Below (gauss (ended F t n (reduction F c e s) .sum)) (two (F - n))
   exponent-below e s n h = let r = reduction F c e s in
       converges F (F - 8) wide room t table (state (gauss (r .start)) (gauss (r .exponent))) (given-rectangle F (omega arith) c promise e s) n h
 
   -- ---- the error is within the bound
   module _ (n T : ℕ) (e s : 𝔾) (least : 1 ≤ n) (most : n ≤ F - 8) where
     abbrev CloseBy : Reduced → Type 0
-    CloseBy r = CloseAt F n T (r .«binary_exponent») e s (gauss (r .start)) (gauss (ended F t c n r .point))
+    CloseBy r = CloseAt F n T (r .«binary_exponent») e s (gauss (r .start)) (gauss (ended F t n r .point))
 
     close-parts : (k : ℤ) (s₁ a : 𝔾) → Parts (twoᵍ n *ᵍ miss F T k e s a) (allowed F n T k (larger s₁)) → CloseAt F n T k e s s₁ a
     close-parts k s₁ a h = let p = parts-abs (two n) (miss F T k e s a) h in record { re = p .0; im = p .1 }
@@ -88,13 +101,13 @@ module _ (F : ℕ) (wide : 16 ≤ F) (narrow : F ≤ 48) (t : StepTable) (table 
         (lin (larger s ∷ pos n ∷ two n ∷ Dᶻ (2 ^ F) T ∷ []) none (search reify depth 20) tt)))
       where
         a : 𝔾
-        a = gauss (ended F t c n (unreduced e s) .point)
+        a = gauss (ended F t n (unreduced e s) .point)
 
         point : a *ᵍ Dᵍ (2 ^ F) T -ᵍ s *ᵍ Sᵍ (2 ^ F) T e ≡ miss F T (pos 0) e s a
         point = ring! 𝔾R (a ∷ Dᵍ (2 ^ F) T ∷ s ∷ Sᵍ (2 ^ F) T e ∷ []) (search reifyᵍ depth 20) tt
 
     pub close-outside : Parts e (pos 8 *ℤ two F) → 80 ≤ T → CloseBy (reduced c e s)
-    close-outside far long = close-parts (r .«binary_exponent») (gauss (r .start)) (gauss (ended F t c n r .point))
+    close-outside far long = close-parts (r .«binary_exponent») (gauss (r .start)) (gauss (ended F t n r .point))
         (far-error F (F - 8) wide narrow room t table c promise e far s (larger (gauss (r .start))) (larger-parts (gauss (r .start)))
         T long n least most (omega arith))
       where

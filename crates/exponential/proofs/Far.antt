@@ -44,7 +44,7 @@ module _ (F M : ℕ) (wide : 16 ≤ F) (narrow : F ≤ 48) (room : M + 8 ≤ F) 
 
   -- what the steps answer
   abbrev A : ℕ → 𝔾
-  A n = gauss (ended F t c n (reduced c e s) .point)
+  A n = gauss (ended F t n (reduced c e s) .point)
 
   module _ (m : ℤ) (given : Parts (s *ᵍ f) m) (T : ℕ) (long : 80 ≤ T) where
     abbrev s₇₀ : 𝔾

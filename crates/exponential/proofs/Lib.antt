@@ -4,7 +4,7 @@
 --   Ranges           the ranges of the figures of every answer
 --   Bound            the error bound is the least whole number that it can be
 --   Zero             a zero start answers zero
---   Cases            the limits by 01's and 02's numbers
+--   Cases            the limits, and what the reduction leaves, by 01's and 02's numbers
 --
 -- The argument, over any width F (one is 2^F units; 01 has F = 48) and any table and constants that keep the promise (table_numbers,
 -- Promises):

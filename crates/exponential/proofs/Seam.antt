@@ -45,9 +45,9 @@ module _ (F n T : ℕ) (k : ℤ) (e s s₁ a a₁ : 𝔾) (plain : CloseAt F n T
 module _ (F : ℕ) (wide : 16 ≤ F) (narrow : F ≤ 48) (t : StepTable) (table : StepPromise F (F - 8) t)
     (c : Constants) (promise : ConstantsPromise F c) where
   pub seam : (n : ℕ) (e s : 𝔾) → 1 ≤ n → n ≤ F - 8 → Rectangle F e → let k = doublings c e in
-      Parts (twoᵍ (up k) *ᵍ gauss (ended F t c n (reduced c e s) .point) -ᵍ twoᵍ (down k) *ᵍ gauss (ended F t c n (unreduced e s) .point))
+      Parts (twoᵍ (up k) *ᵍ gauss (ended F t n (reduced c e s) .point) -ᵍ twoᵍ (down k) *ᵍ gauss (ended F t n (unreduced e s) .point))
       (errorBound n (gauss (reduced c e s .start)) *ℤ two (up k) +ℤ errorBound n s *ℤ two (down k))
   seam n e s least most rect = together F n 80 (doublings c e) e s (gauss (reduced c e s .start))
-      (gauss (ended F t c n (unreduced e s) .point)) (gauss (ended F t c n (reduced c e s) .point))
+      (gauss (ended F t n (unreduced e s) .point)) (gauss (ended F t n (reduced c e s) .point))
       (close-inside F wide narrow t table c promise n 80 e s least most rect (omega arith))
       (close-outside F wide narrow t table c promise n 80 e s least most (rectangle-near rect) (omega arith))

@@ -50,7 +50,7 @@ zero-bound n = ⩽-antisym
     ρ = two n ∷ pos n ∷ errorBound n nought ∷ []
 
 module _ (F : ℕ) (t : StepTable) (c : Constants) where
-  zero-run : (n : ℕ) (r : Reduced) → gauss (r .start) ≡ nought → gauss (ended F t c n r .point) ≡ nought
+  zero-run : (n : ℕ) (r : Reduced) → gauss (r .start) ≡ nought → gauss (ended F t n r .point) ≡ nought
   unfolding next
   zero-run n r e = run-keeps F t Exp (λ _ x. gauss (x .point) ≡ nought) n
       (λ i x h z. ap (λ p. step (suc i) (select F Exp (suc i) x) p) z ∙ step-nought (suc i) (select F Exp (suc i) x))

@@ -36,7 +36,7 @@ unfoldable pub errorBound : ℕ → 𝔾 → ℤ
 errorBound n s = ceiling (pos 8 *ℤ larger s) (2 ^ n) +ℤ rounding-share *ℤ pos n
 
 -- ---- the answer for every input
-module _ (F : ℕ) (t : StepTable) (c : Constants) where
+module _ (F : ℕ) (t : StepTable) where
   -- "For n = 1 to N: .. The start takes the step; the exponent loses the table entry": the state of start and exponent after n steps
   abbrev pub ended : ℕ → Reduced → State
   ended n r = run F t Exp 0 n (state (gauss (r .start)) (gauss (r .exponent)))
@@ -50,8 +50,9 @@ module _ (F : ℕ) (t : StepTable) (c : Constants) where
     «error_bound» = errorBound n (gauss (r .start));
   }
 
+module _ (F : ℕ) (t : StepTable) (c : Constants) where
   abbrev pub figures : ℕ → 𝔾 → 𝔾 → Figures
-  figures n e s = figuresFrom n (reduction F c e s)
+  figures n e s = figuresFrom F t n (reduction F c e s)
 
   -- "first 1, N outside 1 to 40; then 2, exponent outside the rectangle", which is now the reach: "Beyond 8 the answer is still 2"; "then 3,
   -- a start part over 2^58 in size", of the given start

@@ -142,8 +142,8 @@ returns-4 c =
     let end = c .before .before .before .before .before in
     let r = end .before .before .before in
     let a = start r .args in
-    let given-figures : figuresFrom 48 stepTable constants48 (N r) (r .reduce .result) ≡ figures 48 stepTable constants48 (N r) (e r) (s r) =
-    ap (figuresFrom 48 stepTable constants48 (N r)) (given r) in
+    let given-figures : figuresFrom 48 stepTable (N r) (r .reduce .result) ≡ figures 48 stepTable constants48 (N r) (e r) (s r) =
+    ap (figuresFrom 48 stepTable (N r)) (given r) in
     let all : N r - 0 ≡ N r = omega arith in
     let value = ap (λ (x : State). x .point) (rw all at (simp (back, start r .fits .n) at (end .run .ensures))) in
     let told = c .before .before in
