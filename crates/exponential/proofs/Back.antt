@@ -1,5 +1,5 @@
 -- For the code: what an exponent is brought back to, at the width 48, fits.
-use mathlib.Core.Path.{_≡_, sym, ap, ap₂, subst}
+use mathlib.Core.Path.{_≡_, sym, _∙_, ap, ap₂, subst}
 use mathlib.Core.List.{[], _∷_}
 use Prim.Native.Nat.{ℕ, _%_, _≤_, _<_}
 use native.Mathlib.Nat.{mod-lt}
@@ -12,8 +12,9 @@ use mir.Val.{SFits, toZ}
 use Rattle.algebra.specs.Gauss.{𝔾, gi, two}
 use Rattle.algebra.specs.Order.{_⩽_}
 use Rattle.algebra.specs.Size.{Size, Parts}
-use Rattle.algebra.proofs.Reify.{reify}
-use Rattle.algebra.proofs.Order.{⩽-antisym, nonneg-pos, pos-inj-le}
+use Rattle.algebra.proofs.Integer.{ℤR}
+use Rattle.algebra.proofs.Reify.{ring!, reify}
+use Rattle.algebra.proofs.Order.{nonneg-pos, pos-inj-le}
 use Rattle.algebra.proofs.Linear.{lin, _&_, _&≡_, _&ℕ_, none}
 use Rattle.algebra.proofs.Parts.{size-add, size-neg, size-mul, parts-weaken}
 use Rattle.word.proofs.Fits.{word-pos, sfits-size, sfits-pos}
@@ -25,7 +26,7 @@ use Rattle.exponential.specs.Code.{NearestPre}
 use Rattle.exponential.proofs.Reduced.{eighths-size, doublings-size, left-re, left-im}
 use Rattle.exponential.proofs.Divided.{odd-at, factor-at}
 
--- ---- the exponent: the constants as the code has them
+-- ---- the constants as the code has them
 abbrev Q : ℤ
 Q = pos 221069929750889
 
@@ -52,15 +53,18 @@ small : (pos (constants48 .ln-2) ⩽ two 48) × (pos (constants48 .quarter-pi) �
 unfolding constants48
 small = (record { le = tt }, record { le = tt })
 
+-- ---- p and k, 16 more than they are
 -- ex without R for an odd p
 abbrev turned : ℤ → ℕ → ℤ
 turned x p = x -ℤ pos (p % 2) *ℤ R
 
--- a number below 64, 16 more than what it stands for
 pub record CountFits (p : ℕ) : Type 0 where
   pub word : toZ w64 p ≡ pos p
   pub cast : SFits w64 (pos p)
   pub less : SFits w64 (pos p -ℤ pos 16)
+
+sixteen-less : (p : ℕ) (z : ℤ) → pos p ≡ z +ℤ pos 16 → pos p -ℤ pos 16 ≡ z
+sixteen-less p z e = ap (λ t. t -ℤ pos 16) e ∙ ring! ℤR (z ∷ []) (search reify depth 20) tt
 
 count-fits : (p : ℕ) → p ≤ 64 → CountFits p
 count-fits p h = record {
@@ -91,7 +95,6 @@ module _ (x y : ℤ) (far : Parts (gi x y) (two 51)) where
   k-size : Size (doublings constants48 e) (pos 12)
   k-size = doublings-size 48 (omega arith) constants48 constants-promise e near
 
-  -- eights of a turn are to be found
   pub turns-pre : NearestPre y Q
   turns-pre = record {
     least = record { le = tt };
@@ -137,20 +140,15 @@ module _ (x y : ℤ) (far : Parts (gi x y) (two 51)) where
     few : p ≤ 26
     few = pos-inj-le (lin (pos p ∷ eighths constants48 e ∷ []) (p-is &≡ p-size .hi & none) (search reify depth 20) tt)
 
-    turns-are : pos p -ℤ pos 16 ≡ eighths constants48 e
-    turns-are = ⩽-antisym
-        (lin (pos p ∷ eighths constants48 e ∷ []) (p-is &≡ none) (search reify depth 20) tt)
-        (lin (pos p ∷ eighths constants48 e ∷ []) (p-is &≡ none) (search reify depth 20) tt)
-
-    -- the factor
     pub factor-is : getD eight (p % 8) nought ≡ factor (eighths constants48 e)
     factor-is = sym (factor-at (eighths constants48 e) p p-is)
 
     module _ (k : ℕ) (k-is : pos k ≡ doublings constants48 e +ℤ pos 16) where
+      turns-are : pos p -ℤ pos 16 ≡ eighths constants48 e
+      turns-are = sixteen-less p (eighths constants48 e) p-is
+
       doublings-are : pos k -ℤ pos 16 ≡ doublings constants48 e
-      doublings-are = ⩽-antisym
-          (lin (pos k ∷ doublings constants48 e ∷ []) (k-is &≡ none) (search reify depth 20) tt)
-          (lin (pos k ∷ doublings constants48 e ∷ []) (k-is &≡ none) (search reify depth 20) tt)
+      doublings-are = sixteen-less k (doublings constants48 e) k-is
 
       abbrev left-x : ℤ
       left-x = turned x p -ℤ (pos k -ℤ pos 16) *ℤ H

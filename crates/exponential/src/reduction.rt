@@ -106,10 +106,12 @@ fn brought_back(exponent: Point, start: Point) -> Reduced
     let k = nearest(turned, LN_2);
     let turns = (p as i64) - 16;
     let doublings = (k as i64) - 16;
+    let left_x = turned - doublings * LN_2;
+    let left_y = y - turns * QUARTER_PI;
     Reduced {
         exponent: Point {
-            x: turned - doublings * LN_2,
-            y: y - turns * QUARTER_PI,
+            x: left_x,
+            y: left_y,
         },
         start: times(start, factor(p)),
         binary_exponent: doublings,

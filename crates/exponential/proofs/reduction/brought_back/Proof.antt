@@ -85,18 +85,18 @@ cast-doublings c = left c .k-count .cast
 sub-doublings : tie.Need-sub-doublings
 sub-doublings c = let f = left c in rw (f .k-count .word) (f .k-count .less)
 
-mul-t11 : tie.Need-mul-t11
-mul-t11 c = let f = left c in simp (back, f .k-count .word, f .k-count .less) (f .lost-x)
+mul-left-x : tie.Need-mul-left-x
+mul-left-x c = let f = left c in simp (back, f .k-count .word, f .k-count .less) (f .lost-x)
 
-sub-t12 : tie.Need-sub-t12
-sub-t12 c = let s = c .before .before .before .before in let f = left c in let g = turned-facts (c .before) in
+sub-left-x : tie.Need-sub-left-x
+sub-left-x c = let s = c .before .before .before .before in let f = left c in let g = turned-facts (c .before) in
     simp (back, x-fits s, g .bit, g .half, g .left, f .k-count .word, f .k-count .less, f .lost-x) (f .x-left)
 
-mul-t13 : tie.Need-mul-t13
-mul-t13 c = let f = left c in simp (back, f .p-count .word, f .p-count .less) (f .lost-y)
+mul-left-y : tie.Need-mul-left-y
+mul-left-y c = let f = left c in simp (back, f .p-count .word, f .p-count .less) (f .lost-y)
 
-sub-t14 : tie.Need-sub-t14
-sub-t14 c = let s = c .before .before .before .before in let f = left c in
+sub-left-y : tie.Need-sub-left-y
+sub-left-y c = let s = c .before .before .before .before in let f = left c in
     simp (back, y-fits s, f .p-count .word, f .p-count .less, f .lost-y) (f .y-left)
 
 factor-requires : tie.Need-factor-requires
@@ -149,10 +149,10 @@ brought-back-spec =
     sub-turns
     cast-doublings
     sub-doublings
-    mul-t11
-    sub-t12
-    mul-t13
-    sub-t14
+    mul-left-x
+    sub-left-x
+    mul-left-y
+    sub-left-y
     factor-requires
     times-requires
     returns)
