@@ -2,7 +2,7 @@
 //! compiles the C version with the clang that compiles the product.
 
 use reference::point::{point, Point};
-use reference::tables::{cell_xs, cell_ys, reciprocal, tables, Tables};
+use reference::tables::{cell_xs, cell_ys, tables, Tables};
 use reference::width::WIDTH_48;
 use std::path::{Path, PathBuf};
 use std::process::Command;
@@ -17,28 +17,22 @@ fn pair(p: Point) -> String {
 }
 
 /// Each table: what it is, its name, its sizes, and its entries as Rust writes them.
-fn written_tables() -> [(&'static str, &'static str, &'static [usize], String); 3] {
+fn written_tables() -> [(&'static str, &'static str, &'static [usize], String); 2] {
     let tables = tables(WIDTH_48);
     let digits = || -1..=1;
     let steps = list((1..=40).map(|n| {
         list(digits().map(|dx| list(digits().map(|dy| pair(tables.step(n, point(dx, dy)))))))
     }));
-    let cells = |entry: &dyn Fn(i128, i128) -> Point| {
-        list(cell_xs().map(|cx| list(cell_ys().map(|cy| pair(entry(cx, cy))))))
-    };
+    let cells = list(
+        cell_xs().map(|cx| list(cell_ys().map(|cy| pair(tables.reciprocal_log(cx, cy))))),
+    );
     [
         ("ln(1 + d/2^n) by n - 1, dx + 1, dy + 1", "STEPS", &[40, 3, 3], steps),
         (
-            "the reciprocals times 64, by (X - 17)/2 and (Y + 31)/2",
-            "RECIPROCALS",
-            &[8, 32],
-            cells(&reciprocal),
-        ),
-        (
-            "their logarithms",
+            "the logarithms of the reciprocals, by (X - 17)/2 and (Y + 31)/2",
             "RECIPROCAL_LOGS",
             &[8, 32],
-            cells(&|x, y| tables.reciprocal_log(x, y)),
+            cells,
         ),
     ]
 }

@@ -102,14 +102,6 @@ def step_name(n, place):
     return f"STEP_{n}_{('MINUS', 'ZERO', 'PLUS')[place]}"
 
 
-def source_head(about, definition):
-    return f"""// {about} {MADE}
-ghost use mathlib.Core.Path.{{_≡_}};
-ghost use Rattle.table_numbers.specs.Rows.{{{definition}}};
-use table_numbers::Entry;
-"""
-
-
 def parts():
     """(number, first n) of each constant."""
     return list(enumerate(range(1, WIDTH - 7, PART), 1))
@@ -186,28 +178,22 @@ pub fn numbers_at(index: usize) -> [i64; 6]
     return "".join(out)
 
 
-def cells_source(about, function, definition, table):
-    cells = [entry for column in table for entry in column]
+def reciprocal_logs_source():
+    cells = [entry for column in reciprocal_logs(WIDTH) for entry in column]
     arms = "".join(f"        {i} => {indented(number_fields(e), 2)},\n" for i, e in enumerate(cells))
-    return f"""{source_head(about, definition)}
-pub fn {function}(cell: usize) -> Entry
-    ensures {{ λ r. ⌜ r ≡ {definition} cell ⌝ }}
+    return f"""// The logarithms of the reciprocals at the width {WIDTH}, by their cells. {MADE}
+ghost use mathlib.Core.Path.{{_≡_}};
+ghost use Rattle.table_numbers.specs.Rows.{{reciprocalLogAt}};
+use table_numbers::Entry;
+
+pub fn reciprocal_log_at(cell: usize) -> Entry
+    ensures {{ λ r. ⌜ r ≡ reciprocalLogAt cell ⌝ }}
 {{
     match cell {{
 {arms}        _ => Entry {{ re: 0, im: 0 }},
     }}
 }}
 """
-
-
-def reciprocals_source():
-    return cells_source("The reciprocals by their cells.", "reciprocal_at", "reciprocalAt", reciprocals())
-
-
-def reciprocal_logs_source():
-    return cells_source(
-        f"The logarithms of the reciprocals at the width {WIDTH}, by their cells.", "reciprocal_log_at", "reciprocalLogAt", reciprocal_logs(WIDTH)
-    )
 
 
 # ---- the proofs of the look-ups: in each arm the number is known, and the specification computes there to the arm's entries
@@ -263,16 +249,9 @@ part-{number}-spec = tie.close (tie.spec {' '.join(needs)} returns)
 """
 
 
-def cells_proof(function, numbers, module, definition, last):
-    return arms_proof(function, f"use Rattle.table_numbers.specs.{module}.{{{numbers}}}\n", numbers, definition, last, 256)
-
-
-def reciprocals_proof():
-    return cells_proof(("reciprocal_table", "reciprocals", "reciprocal_at"), "reciprocals", "Reciprocals", "reciprocalAt", "other-reciprocal")
-
-
 def reciprocal_logs_proof():
-    return cells_proof(("reciprocal_table", f"reciprocal_logs{WIDTH}", "reciprocal_log_at"), "reciprocalLogs", f"Numbers{WIDTH}", "reciprocalLogAt", "other-log")
+    uses = f"use Rattle.table_numbers.specs.Numbers{WIDTH}.{{reciprocalLogs}}\n"
+    return arms_proof(("reciprocal_table", f"reciprocal_logs{WIDTH}", "reciprocal_log_at"), uses, "reciprocalLogs", "reciprocalLogAt", "other-log", 256)
 
 
 FILES = {
@@ -280,10 +259,8 @@ FILES = {
     "table_numbers/specs/Reciprocals.antt": reciprocals_spec,
     f"step_table/src/rows{WIDTH}.rt": steps_source,
     f"step_table/src/flat{WIDTH}.rt": flat_source,
-    "reciprocal_table/src/reciprocals.rt": reciprocals_source,
     f"reciprocal_table/src/reciprocal_logs{WIDTH}.rt": reciprocal_logs_source,
     f"step_table/proofs/flat{WIDTH}/numbers_at/Proof.antt": steps_proof,
-    "reciprocal_table/proofs/reciprocals/reciprocal_at/Proof.antt": reciprocals_proof,
     f"reciprocal_table/proofs/reciprocal_logs{WIDTH}/reciprocal_log_at/Proof.antt": reciprocal_logs_proof,
     f"step_table/src/array{WIDTH}.rt": array_source,
 } | {

@@ -73,6 +73,13 @@ struct answer engine_exp(int64_t n, int64_t ex, int64_t ey, int64_t sx, int64_t 
     return (struct answer){.x = x, .y = y, .k = k, .bound = bound};
 }
 
+/* 64 times the reciprocal of (x + iy)/32, each part as floor(value + 1/2). One division serves both: 2^31/S is cut, but no
+   part is so near a half that it would tell. */
+static struct entry reciprocal(int32_t x, int32_t y) {
+    int32_t share = (int32_t)((UINT32_C(1) << 31) / (uint32_t)(x * x + y * y));
+    return (struct entry){(share * x + (1 << 19)) >> 20, ((1 << 19) - share * y) >> 20};
+}
+
 struct answer engine_log(int64_t n, int64_t px, int64_t py) {
     if (n < 3 || n > 40)
         return refused(1);
@@ -100,8 +107,8 @@ struct answer engine_log(int64_t n, int64_t px, int64_t py) {
         wy >>= k;
     }
     /* Cells have side 1/16; X = 17 is the first, from 8/16 on, and Y = -31 from -16/16 on. */
-    int64_t across = (wx >> 44) - 8, up = (wy >> 44) + 16;
-    struct entry inverse = RECIPROCALS[across][up], log = RECIPROCAL_LOGS[across][up];
+    int32_t column = (int32_t)(wx >> 44), row = (int32_t)(wy >> 44);
+    struct entry inverse = reciprocal(2 * column + 1, 2 * row + 1), log = RECIPROCAL_LOGS[column - 8][row + 16];
     int64_t x = (inverse.re * wx - inverse.im * wy) >> 6, y = (inverse.re * wy + inverse.im * wx) >> 6;
     int64_t answer_x = -log.re, answer_y = -log.im;
     for (int64_t i = 3; i <= n; i++) {

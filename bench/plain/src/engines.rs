@@ -1,6 +1,6 @@
 //! EXP and LOG, and the record of 48 bytes that the C calls fill.
 
-use crate::tables::{EIGHTH_TURN, HALF_LN_2, LN_2, RECIPROCALS, RECIPROCAL_LOGS, STEPS};
+use crate::tables::{EIGHTH_TURN, HALF_LN_2, LN_2, RECIPROCAL_LOGS, STEPS};
 
 #[derive(Clone, Copy, PartialEq, Eq, Debug)]
 pub enum Refusal {
@@ -102,6 +102,14 @@ pub fn exp(n: i64, ex: i64, ey: i64, sx: i64, sy: i64) -> Result<Figures, Refusa
     Ok(Figures { x, y, k, q: 0, bound })
 }
 
+/// 64 times the reciprocal of (x + iy)/32, each part as floor(value + 1/2). One division serves
+/// both: 2^31/S is cut, but no part is so near a half that it would tell.
+fn reciprocal(x: i32, y: i32) -> (i64, i64) {
+    let share = ((1 << 31) / (x * x + y * y) as u32) as i32;
+    let part = |above: i32| i64::from((above + (1 << 19)) >> 20);
+    (part(share * x), part(-share * y))
+}
+
 pub fn log(n: i64, px: i64, py: i64) -> Result<Figures, Refusal> {
     if !(3..=40).contains(&n) {
         return Err(Refusal::Steps);
@@ -126,10 +134,10 @@ pub fn log(n: i64, px: i64, py: i64) -> Result<Figures, Refusal> {
     let scale = |part: i64| if k <= 0 { part << -k } else { part >> k };
     let (wx, wy) = (scale(wx), scale(wy));
     // Cells have side 1/16; X = 17 is the first, from 8/16 on, and Y = -31 from -16/16 on.
-    let (across, up) = ((wx >> 44) as usize - 8, ((wy >> 44) + 16) as usize);
-    let (a, b) = RECIPROCALS[across][up];
+    let (column, row) = ((wx >> 44) as i32, (wy >> 44) as i32);
+    let (a, b) = reciprocal(2 * column + 1, 2 * row + 1);
     let (mut x, mut y) = ((a * wx - b * wy) >> 6, (a * wy + b * wx) >> 6);
-    let (re, im) = RECIPROCAL_LOGS[across][up];
+    let (re, im) = RECIPROCAL_LOGS[column as usize - 8][(row + 16) as usize];
     let (mut answer_x, mut answer_y) = (-re, -im);
     for (i, entries) in steps(3, n) {
         let half = (ONE / 2) >> i;

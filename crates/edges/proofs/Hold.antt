@@ -15,7 +15,7 @@ use Rattle.word.specs.Compare.{between}
 use Rattle.point.specs.Step.{quotient, step}
 use Rattle.point.specs.Limits.{inSteps, inBox, inParts}
 use Rattle.answer.specs.Record.{recordOf}
-use Rattle.table_numbers.specs.Cell.{cellOf}
+use Rattle.table_numbers.specs.Cell.{isCell, cellOf}
 use Rattle.table_numbers.specs.Numbers48.{stepLogs, reciprocalLogs, constants48}
 use Rattle.table_numbers.specs.Reciprocal.{reciprocal}
 use Rattle.table_numbers.specs.Table.{stepTable, reciprocalTable}
@@ -71,7 +71,7 @@ all-tested (c ∷ cs) = both (tested c) (all-tested cs)
 pub cases-hold : All cases
 unfolding all-tested tested equals equalᵍ equal at-most both by recordOf expAnswer answer inSteps inReach inRectangle
     reduction left-over doublings turned-re eighths factor constants48 inParts inBox between logAnswer
-    log-answer isZero digits run next select exp-select log-select cut-back stepTable stepLogs reciprocalTable reciprocalLogs cellOf step
+    log-answer isZero digits run next select exp-select log-select cut-back stepTable stepLogs reciprocalTable reciprocalLogs cellOf isCell step
     quotient quadrant spelling quarters turned turns-back turn-back binary-exponent bit-length bits bits-from scaled reduced column row
     reciprocal nearest floorᵍ ιᵍ negᵍ _+ᵍ_ _*ᵍ_
 cases-hold = all-tested cases .shows tt

@@ -139,7 +139,7 @@ fn negated(t: Entry) -> Point
 }
 
 // What the steps start from: the turned point scaled and brought near one, and minus the logarithm of the reciprocal. A cell is 2^44 units
-// wide.
+// wide. The logarithm is asked for first: behind the reciprocal its look-up would be compiled to a jump to one of 256 places.
 pub fn begun(w: Point, b: usize) -> State
     requires { ⌜ ScalePre 48 w b ⌝ }
     ensures { λ r. ⌜ r ≡ begun 48 reciprocalTable (gauss w) ⌝ }
@@ -149,8 +149,8 @@ pub fn begun(w: Point, b: usize) -> State
     let y = p.y;
     let column = x >> 44;
     let row = y >> 44;
-    let c = tables::reciprocal(column, row);
     let l = tables::reciprocal_log(column, row);
+    let c = tables::reciprocal(column, row);
     let point = reduced(p, c);
     let sum = negated(l);
     State { point, sum }

@@ -9,9 +9,10 @@ use Rattle.algebra.specs.Size.{abs}
 use Rattle.algebra.specs.Rounding.{nearest}
 use Rattle.algebra.proofs.Test.{and-left, and-right}
 use Rattle.word.specs.Compare.{between}
+use Rattle.point.specs.Limits.{inBox}
 use Rattle.series.specs.Series.{D}
 use Rattle.table_numbers.specs.Reciprocal.{reciprocal}
-use Rattle.table_numbers.specs.Cell.{cellOf}
+use Rattle.table_numbers.specs.Cell.{isCell, cellOf}
 use Rattle.table_numbers.specs.Numbers48.{stepLogs, reciprocalLogs, constants48}
 use Rattle.table_numbers.specs.Table.{stepTable, reciprocalTable}
 use Rattle.table_numbers.proofs.Promises.{Move, eighth, doubling}
@@ -27,7 +28,7 @@ pub step-nearest : NearestSteps 48 40 stepTable
 step-nearest = steps-are-nearest 48 stepTable 40 steps-48
 
 logs-48 : T (cells (reciprocal-nearest-test 48 reciprocalTable))
-unfolding reciprocal-nearest-test nearest-test reciprocal nearest reciprocalTable cellOf between reciprocalLogs D _+ᵍ_ _*ᵍ_ negᵍ ιᵍ abs
+unfolding reciprocal-nearest-test nearest-test reciprocal nearest reciprocalTable cellOf isCell inBox between reciprocalLogs D _+ᵍ_ _*ᵍ_ negᵍ ιᵍ abs
 logs-48 = tt
 
 pub reciprocal-nearest : NearestReciprocals 48 reciprocalTable

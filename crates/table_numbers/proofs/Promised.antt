@@ -12,12 +12,10 @@ use Rattle.table_numbers.specs.declared.Entry.{Entry}
 use Rattle.table_numbers.specs.Reciprocal.{centre}
 use Rattle.table_numbers.specs.Promise.{StepEntry}
 use Rattle.table_numbers.specs.Listed.{byDigit}
-use Rattle.table_numbers.specs.Cell.{cellOf}
 use Rattle.table_numbers.specs.Numbers48.{stepLogs}
 use Rattle.table_numbers.specs.Table.{stepTable, reciprocalTable}
-use Rattle.table_numbers.specs.Rows.{entry, number, none, stepRow, part, rowAt, reciprocalAt, RowPromise, ReciprocalIs, LogPromise}
-use Rattle.table_numbers.proofs.TableLaws.{storedReciprocal}
-use Rattle.table_numbers.proofs.Promise48.{step-promise, reciprocal-promise, stored-reciprocal}
+use Rattle.table_numbers.specs.Rows.{entry, number, none, stepRow, part, rowAt, RowPromise, LogPromise}
+use Rattle.table_numbers.proofs.Promise48.{step-promise, reciprocal-promise}
 use Rattle.table_numbers.proofs.RowLaws.{row-entry, rowOf, noRow}
 use Rattle.table_numbers.proofs.DigitPlaces.{place, place-lt, outside}
 
@@ -45,14 +43,6 @@ row-at n {dx} t =
     let p : (3 * n + place dx) / 3 ≡ n = omega (arith, l) in
     let q : (3 * n + place dx) % 3 ≡ place dx = omega (arith, l) in
     ap₂ (λ m a. stepRow m (part a)) p q ∙ ap (stepRow n) (part-place t)
-
-pub reciprocal-is : (column row : ℤ) → ReciprocalIs column row (reciprocalAt (cellOf column row))
-unfolding storedReciprocal
-reciprocal-is column row i = stored-reciprocal column row i
-
-pub reciprocal-kept : (column row : ℤ) {e : Entry} → e ≡ reciprocalAt (cellOf column row) → (e ≡ reciprocalAt (cellOf column row))
-    × ReciprocalIs column row e
-reciprocal-kept column row h = (h, subst (λ w. ReciprocalIs column row w) (sym h) (reciprocal-is column row))
 
 pub log-promise : (column row : ℤ) → LogPromise column row (entry (reciprocalTable (centre column) (centre row)))
 log-promise column row i = reciprocal-promise column row i

@@ -13,9 +13,8 @@ use Rattle.table_numbers.specs.declared.Entry.{Entry}
 use Rattle.table_numbers.specs.Listed.{nought, byDigit}
 use Rattle.table_numbers.specs.Cell.{cellAt}
 use Rattle.table_numbers.specs.Numbers48.{stepLogs, reciprocalLogs}
-use Rattle.table_numbers.specs.Reciprocals.{reciprocals}
 use Rattle.table_numbers.specs.Table.{stepTable}
-use Rattle.table_numbers.specs.Rows.{entry, none, stepRow, part, rowAt, reciprocalAt, reciprocalLogAt}
+use Rattle.table_numbers.specs.Rows.{entry, none, stepRow, part, rowAt, reciprocalLogAt}
 use Rattle.table_numbers.proofs.Match.{Rests, past}
 
 pub row-entry : (n : ℕ) (dx dy : ℤ) → byDigit (stepRow n dx) none dy ≡ entry (stepTable n dx dy)
@@ -60,10 +59,6 @@ other-row k r = no-step (k / 3) (part (k % 3)) (⊎-elim (λ g. inr (after g)) (
 no-cell : (l : List (List 𝔾)) (k : ℕ) → length l ≤ 8 → Rests 0 k 256 → none ≡ entry (cellAt l k)
 no-cell l k h r = ap (λ column. entry (getD column (k % 32) nought))
     (sym (List·getD-eq-default l [] (omega (arith, past 0 k 256 (omega arith) r))))
-
-pub other-reciprocal : (k : ℕ) → Rests 0 k 256 → none ≡ reciprocalAt k
-unfolding reciprocals
-other-reciprocal k = no-cell reciprocals k (omega arith)
 
 pub other-log : (k : ℕ) → Rests 0 k 256 → none ≡ reciprocalLogAt k
 unfolding reciprocalLogs

@@ -1,5 +1,6 @@
 -- The tables as code has them: a struct to an entry, three of them to a row, the rows and the cells each in one line for a `match`; and
 -- what a look-up promises of what it hands out.
+use mathlib.Core.Bool.{cond}
 use mathlib.Core.List.{List, [], _∷_}
 use Prim.Native.Nat.{ℕ, zero, suc, _/_, _%_, _≤_}
 use lib.IntN.{ℤ, pos, negsuc}
@@ -8,9 +9,8 @@ use Rattle.algebra.specs.Gauss.{𝔾, gi}
 use Rattle.point.specs.Digit.{IsDigit}
 use Rattle.table_numbers.specs.declared.Entry.{Entry}
 use Rattle.table_numbers.specs.Listed.{nought, byDigit}
-use Rattle.table_numbers.specs.Cell.{cellAt}
+use Rattle.table_numbers.specs.Cell.{isCell, cellAt}
 use Rattle.table_numbers.specs.Numbers48.{reciprocalLogs}
-use Rattle.table_numbers.specs.Reciprocals.{reciprocals}
 use Rattle.table_numbers.specs.Table.{stepTable}
 use Rattle.table_numbers.specs.Reciprocal.{reciprocal, centre, InTable}
 use Rattle.table_numbers.specs.Promise.{StepEntry, ReciprocalEntry}
@@ -38,8 +38,9 @@ abbrev pub rowAt : ℕ → List Entry
 rowAt k = stepRow (k / 3) (part (k % 3))
 
 -- ---- the cells
-abbrev pub reciprocalAt : ℕ → Entry
-reciprocalAt k = entry (cellAt reciprocals k)
+-- the reciprocal of a cell, worked out from its X and Y (02, E6), and nought outside
+unfoldable pub reciprocalAt : ℤ → ℤ → Entry
+reciprocalAt column row = entry (cond (isCell column row) (reciprocal (centre column) (centre row)) nought)
 
 abbrev pub reciprocalLogAt : ℕ → Entry
 reciprocalLogAt k = entry (cellAt reciprocalLogs k)
@@ -48,10 +49,6 @@ reciprocalLogAt k = entry (cellAt reciprocalLogs k)
 abbrev pub RowPromise : ℕ → ℤ → List Entry → Type 0
 RowPromise n dx row = 1 ≤ n → n ≤ 40 → (d : 𝔾) → IsDigit d → d .re ≡ dx → StepEntry 48 n d (number (byDigit row none (d .im)))
 
--- the reciprocal of a cell is that of the formula, in each of the 256
-abbrev pub ReciprocalIs : ℤ → ℤ → Entry → Type 0
-ReciprocalIs column row e = InTable column row → number e ≡ reciprocal (centre column) (centre row)
-
--- and its logarithm keeps the promise
+-- the logarithm of a cell's reciprocal keeps the promise
 abbrev pub LogPromise : ℤ → ℤ → Entry → Type 0
 LogPromise column row e = InTable column row → ReciprocalEntry 48 (reciprocal (centre column) (centre row)) (number e)

@@ -59,24 +59,24 @@ fn step_array() {
     assert_eq!(compare::step_entry(usize::MAX, i64::MIN, i64::MAX), (0, 0));
 }
 
-/// The entries by columns of cells, and what stands outside.
-fn cells(entry: impl Fn(i128, i128) -> Point) -> Vec<Point> {
-    let mut wanted: Vec<_> =
-        cell_xs().flat_map(|x| cell_ys().map(move |y| (x, y))).map(|(x, y)| entry(x, y)).collect();
-    assert_eq!(wanted.len(), 256);
-    wanted.push(point(0, 0));
-    wanted
+/// What the cells have, by columns.
+fn cells(of: impl Fn(i128, i128) -> Point) -> Vec<Point> {
+    cell_xs().flat_map(|x| cell_ys().map(move |y| (x, y))).map(|(x, y)| of(x, y)).collect()
 }
 
+/// 02, E6: each of the 256 cells keeps the seat that was stored for it.
 #[test]
-fn reciprocals() {
-    assert_eq!(entries("reciprocals.rt"), cells(reciprocal));
+fn seats() {
+    let stored = include_str!("seats.txt").split_whitespace().map(|seat| {
+        let (a, b) = seat.split_once(',').unwrap();
+        point(a.parse().unwrap(), b.parse().unwrap())
+    });
+    assert_eq!(stored.collect::<Vec<_>>(), cells(reciprocal));
 }
 
 #[test]
 fn reciprocal_logs() {
-    assert_eq!(
-        entries("reciprocal_logs48.rt"),
-        cells(|x, y| tables(WIDTH_48).reciprocal_log(x, y))
-    );
+    let mut wanted = cells(|x, y| tables(WIDTH_48).reciprocal_log(x, y));
+    wanted.push(point(0, 0)); // what stands outside comes last
+    assert_eq!(entries("reciprocal_logs48.rt"), wanted);
 }

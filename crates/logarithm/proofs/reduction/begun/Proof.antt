@@ -17,6 +17,7 @@ use Rattle.point.specs.Point.{gauss, point}
 use Rattle.table_numbers.specs.Reciprocal.{reciprocal, centre, InTable}
 use Rattle.table_numbers.specs.Table.{reciprocalTable}
 use Rattle.table_numbers.specs.Rows.{number}
+use Rattle.table_numbers.proofs.TableLaws.{reciprocal-at}
 use Rattle.tables.proofs.Promises.{reciprocal-promise}
 use Rattle.logarithm.specs.Reduction.{scaled, column, row, cellX, cellY, reciprocalOf, reduced}
 use Rattle.logarithm.specs.Code.{ReducePre}
@@ -51,45 +52,43 @@ module _ (c : tie.After-struct-told2) where
   cell : InTable (cells (found .x)) (cells (found .y))
   cell = subst₂ InTable (sym column-is) (sym row-is) (in-cell (lit≤ tt) (c .before .before .before .pre))
 
-reciprocal-is : (c : tie.After-reciprocal) → number (c .reciprocal .result) ≡ reciprocalOf 48 (p (c .before))
-reciprocal-is c = c .reciprocal .ensures .1 (cell (c .before)) ∙ ap₂ (λ i j. reciprocal (centre i) (centre j)) (column-is (c .before))
+log-is : (c : tie.After-reciprocal-log) → let q = p (c .before) in number (c .reciprocal-log .result) ≡ reciprocalTable (cellX 48 q) (cellY 48 q)
+log-is c = ap number (c .reciprocal-log .ensures .0) ∙ ap₂ (λ i j. reciprocalTable (centre i) (centre j)) (column-is (c .before))
     (row-is (c .before))
 
-log-is : (c : tie.After-reciprocal-log) → let q = p (c .before .before) in
-    number (c .reciprocal-log .result) ≡ reciprocalTable (cellX 48 q) (cellY 48 q)
-log-is c = let b = c .before .before in ap number (c .reciprocal-log .ensures .0) ∙ ap₂ (λ i j. reciprocalTable (centre i) (centre j))
-    (column-is b) (row-is b)
+reciprocal-is : (c : tie.After-reciprocal) → number (c .reciprocal .result) ≡ reciprocalOf 48 (p (c .before .before))
+reciprocal-is c = let b = c .before .before in ap number (c .reciprocal .ensures) ∙ reciprocal-at (cell b) ∙ ap₂
+    (λ i j. reciprocal (centre i) (centre j)) (column-is b) (row-is b)
 
 scaled-requires : tie.Need-scaled-requires
 scaled-requires c κs = search needs
 
-reciprocal-requires : tie.Need-reciprocal-requires
-reciprocal-requires c κs = search needs
-
 reciprocal-log-requires : tie.Need-reciprocal-log-requires
 reciprocal-log-requires c κs = search needs
 
+reciprocal-requires : tie.Need-reciprocal-requires
+reciprocal-requires c κs = search needs
+
 reduced-requires : tie.Need-reduced-requires
 reduced-requires c κs =
-    let r = c .before in
-    let s = r .before .before .before in
-    subst (λ q. ReducePre 48 q (r .reciprocal .result)) (sym (s .scaled .ensures))
-    (reduce-ok (lit≤ tt) (s .before .pre) (r .reciprocal .result) (reciprocal-is r))
+    let s = c .before .before .before .before in
+    subst (λ q. ReducePre 48 q (c .reciprocal .result)) (sym (s .scaled .ensures))
+    (reduce-ok (lit≤ tt) (s .before .pre) (c .reciprocal .result) (reciprocal-is c))
 
 negated-requires : tie.Need-negated-requires
-negated-requires c κs = let l = c .before in subst (λ z. Parts z (two 61)) (sym (log-is l))
-    (log-parts (lit≤ tt) (l .before .before .before .before .before .pre) (lit≤ tt) reciprocalTable reciprocal-promise)
+negated-requires c κs = let l = c .before .before in subst (λ z. Parts z (two 61)) (sym (log-is l))
+    (log-parts (lit≤ tt) (l .before .before .before .before .pre) (lit≤ tt) reciprocalTable reciprocal-promise)
 
 returns : tie.Need-returns
 unfolding reduced
 returns c =
     let r = c .before in
-    let l = r .before in
-    let s = l .before .before .before .before in
-    let e = r .reduced .ensures ∙ ap₂ (λ (z : 𝔾) (q : Point). point (floorᵍ (z *ᵍ gauss q) 64)) (reciprocal-is (l .before))
-    (s .scaled .ensures) in
+    let b = r .before in
+    let l = b .before in
+    let s = l .before .before .before in
+    let e = r .reduced .ensures ∙ ap₂ (λ (z : 𝔾) (q : Point). point (floorᵍ (z *ᵍ gauss q) 64)) (reciprocal-is b) (s .scaled .ensures) in
     let f = c .negated .ensures ∙ ap (λ z. point (negᵍ z)) (log-is l) in
     λ i. record { point = e i; sum = f i }
 
 pub begun-spec : {M : Type 1} → statement M
-begun-spec = tie.close (tie.spec scaled-requires reciprocal-requires reciprocal-log-requires reduced-requires negated-requires returns)
+begun-spec = tie.close (tie.spec scaled-requires reciprocal-log-requires reciprocal-requires reduced-requires negated-requires returns)
