@@ -15,7 +15,7 @@ import sys
 ROOT = pathlib.Path(__file__).resolve().parent.parent
 MARKS = {"abbrev", "unfoldable", "pub"}
 NOT_NAMES = {"use", "mod", "module", "open", "unfolding", "infix", "infixl", "infixr", "where", "let", "in"}
-LISTED = {"Numbers48.antt", "Reciprocals.antt"}
+LISTED = {"Numbers48.antt"}
 
 
 def read(path):

@@ -10,7 +10,7 @@ import sys
 
 HERE = pathlib.Path(__file__).resolve().parent
 sys.path.insert(0, str(HERE.parent))
-from make_tables import constants, reciprocal_logs, reciprocals, step_table  # noqa: E402
+from make_tables import constants, reciprocal_logs, step_table  # noqa: E402
 
 CRATES = HERE.parent.parent / "crates"
 WIDTH = 48
@@ -45,25 +45,24 @@ def nested(rows, width):
 
 
 MADE = "Made by tests/tables/generate.py."
-SPEC_USES = """use mathlib.Core.List.{List, [], _∷_}
-use lib.IntN.{pos}
-use Rattle.algebra.specs.Gauss.{𝔾, gi}
-use Rattle.table_numbers.specs.Listed.{neg}
-"""
 
 
 def numbers_spec():
     steps = listed(["(" + "\n    ∷ ".join(row_of(row) for row in rows) + "\n    ∷ [])" for rows in step_table(WIDTH)], 4)
     quarter_pi, ln_2, half_ln_2 = constants(WIDTH)
     return f"""-- The tables of logarithms and the constants at the width {WIDTH}, each number as the nearest unit of 1/2^{WIDTH}. {MADE}
-{SPEC_USES}use Rattle.table_numbers.specs.Promise.{{Constants}}
+use mathlib.Core.List.{{List, [], _∷_}}
+use lib.IntN.{{pos}}
+use Rattle.algebra.specs.Gauss.{{𝔾, gi}}
+use Rattle.table_numbers.specs.Listed.{{neg}}
+use Rattle.table_numbers.specs.Promise.{{Constants}}
 
 -- ln(1 + d/2^n): for each n from 1 to {WIDTH - 8} three rows by dx, each of three entries by dy, from −1 to 1 (01, The step)
 unfoldable pub stepLogs : List (List (List 𝔾))
 stepLogs =
 {steps}
 
--- ln((a + ib)/64) for the reciprocals, in their order
+-- ln((a + ib)/64): for each X from 17 to 31 by Y from −31 to 31
 unfoldable pub reciprocalLogs : List (List 𝔾)
 reciprocalLogs =
 {nested(reciprocal_logs(WIDTH), 3)}
@@ -71,15 +70,6 @@ reciprocalLogs =
 -- the constants of EXP's reduction (02, E5)
 unfoldable pub constants48 : Constants
 constants48 = record {{ quarter-pi = {quarter_pi}; ln-2 = {ln_2}; half-ln-2 = {half_ln_2} }}
-"""
-
-
-def reciprocals_spec():
-    return f"""-- The 256 reciprocals as they are stored, in 64ths: for each X from 17 to 31 by Y from −31 to 31. {MADE}
-{SPEC_USES}
-unfoldable pub reciprocals : List (List 𝔾)
-reciprocals =
-{nested(reciprocals(), 4)}
 """
 
 
@@ -256,7 +246,6 @@ def reciprocal_logs_proof():
 
 FILES = {
     f"table_numbers/specs/Numbers{WIDTH}.antt": numbers_spec,
-    "table_numbers/specs/Reciprocals.antt": reciprocals_spec,
     f"step_table/src/rows{WIDTH}.rt": steps_source,
     f"step_table/src/flat{WIDTH}.rt": flat_source,
     f"reciprocal_table/src/reciprocal_logs{WIDTH}.rt": reciprocal_logs_source,

@@ -105,9 +105,9 @@ pub fn exp(n: i64, ex: i64, ey: i64, sx: i64, sy: i64) -> Result<Figures, Refusa
 /// 64 times the reciprocal of (x + iy)/32, each part as floor(value + 1/2). One division serves
 /// both: 2^31/S is cut, but no part is so near a half that it would tell.
 fn reciprocal(x: i32, y: i32) -> (i64, i64) {
-    let share = ((1 << 31) / (x * x + y * y) as u32) as i32;
-    let part = |above: i32| i64::from((above + (1 << 19)) >> 20);
-    (part(share * x), part(-share * y))
+    let one_over_s = ((1 << 31) / (x * x + y * y) as u32) as i32;
+    let part = |value: i32| i64::from((value + (1 << 19)) >> 20);
+    (part(one_over_s * x), part(-one_over_s * y))
 }
 
 pub fn log(n: i64, px: i64, py: i64) -> Result<Figures, Refusal> {

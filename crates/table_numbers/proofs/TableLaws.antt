@@ -5,7 +5,6 @@ use mathlib.Core.List.{[], _∷_}
 use lib.Dec.{lit<}
 use lib.IntN.{ℤ, pos}
 use lib.Signed.{shrZ}
-use Rattle.algebra.specs.Gauss.{𝔾}
 use Rattle.algebra.proofs.Reify.{reify}
 use Rattle.algebra.proofs.Linear.{lin, _&_, none}
 use Rattle.algebra.proofs.Floor.{floor-unique}
@@ -14,13 +13,8 @@ use Rattle.point.specs.Limits.{inBox}
 use Rattle.table_numbers.specs.Reciprocal.{reciprocal, centre, InTable}
 use Rattle.table_numbers.specs.Cell.{isCell, cellOf, cellAt}
 use Rattle.table_numbers.specs.Numbers48.{reciprocalLogs}
-use Rattle.table_numbers.specs.Reciprocals.{reciprocals}
 use Rattle.table_numbers.specs.Table.{reciprocalTable}
 use Rattle.table_numbers.specs.Rows.{number, reciprocalAt}
-
--- the reciprocal in a column and a row
-unfoldable pub storedReciprocal : ℤ → ℤ → 𝔾
-storedReciprocal column row = cellAt reciprocals (cellOf column row)
 
 -- a cell's reciprocal is that of the formula
 module _ {column row : ℤ} (i : InTable column row) where

@@ -170,7 +170,7 @@ stepLogs =
     ∷ [])
     ∷ []
 
--- ln((a + ib)/64) for the reciprocals, in their order
+-- ln((a + ib)/64): for each X from 17 to 31 by Y from −31 to 31
 unfoldable pub reciprocalLogs : List (List 𝔾)
 reciprocalLogs =
     (gi (neg 26832584695840) (pos 300814032425413) ∷ gi (neg 11672188329189) (pos 293170134192944) ∷ gi (neg 827059118787) (pos 283973000852325) ∷

@@ -1,4 +1,4 @@
--- Reciprocals ("seats", 01, LOG): for the cell of side 1/16 with centre (X + iY)/32 the number (a + ib)/64 near 32/(X + iY).
+-- Reciprocals ("seats", 01, LOG; 02, E6): for the cell of side 1/16 with centre (X + iY)/32 the number (a + ib)/64 near 32/(X + iY).
 use lib.IntN.{ℤ, pos, negsuc, negℤ, _+ℤ_, _*ℤ_, natAbs}
 use Rattle.algebra.specs.Gauss.{𝔾, gi}
 use Rattle.algebra.specs.Order.{_⩽_}

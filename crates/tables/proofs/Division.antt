@@ -28,18 +28,18 @@ use Rattle.table_numbers.proofs.Kept.{cells, cells-at}
 abbrev norm : ℤ → ℤ → ℤ
 norm x y = x *ℤ x +ℤ y *ℤ y
 
-abbrev share : ℤ → ℤ → ℕ
-share x y = 2147483648 / natAbs (norm x y)
+abbrev one-over : ℤ → ℤ → ℕ
+one-over x y = 2147483648 / natAbs (norm x y)
 
 abbrev made : ℤ → ℤ → 𝔾
-made x y = gi (shrZ (pos (share x y) *ℤ x +ℤ pos 524288) (2 ^ 20)) (shrZ (pos 524288 -ℤ pos (share x y) *ℤ y) (2 ^ 20))
+made x y = gi (shrZ (pos (one-over x y) *ℤ x +ℤ pos 524288) (2 ^ 20)) (shrZ (pos 524288 -ℤ pos (one-over x y) *ℤ y) (2 ^ 20))
 
 -- ---- the test
 abbrev facts : ℤ → ℤ → List (ℤ × ℤ)
 facts x y =
     let z = made x y in
     let w = reciprocal x y in
-    (pos 1, norm x y) ∷ (pos (share x y), two 31) ∷ (z .re, w .re) ∷ (w .re, z .re) ∷ (z .im, w .im) ∷ (w .im, z .im) ∷ []
+    (pos 1, norm x y) ∷ (pos (one-over x y), two 31) ∷ (z .re, w .re) ∷ (w .re, z .re) ∷ (z .im, w .im) ∷ (w .im, z .im) ∷ []
 
 test : ℤ → ℤ → Bool
 test column row = les (facts (centre column) (centre row))
@@ -62,12 +62,12 @@ pub record CentreFits (x y : ℤ) : Type 0 where
   pub s : SFits w64 (norm x y)
   pub divisor : T (nonNeg (norm x y)) × Fits w32 (natAbs (norm x y))
   pub some : 0 < natAbs (norm x y)
-  pub quotient : SFits w64 (pos (share x y))
-  pub word : toZ w64 (share x y) ≡ pos (share x y)
-  pub by-x : SFits w64 (pos (share x y) *ℤ x)
-  pub by-y : SFits w64 (pos (share x y) *ℤ y)
-  pub above : SFits w64 (pos (share x y) *ℤ x +ℤ pos 524288)
-  pub below : SFits w64 (pos 524288 -ℤ pos (share x y) *ℤ y)
+  pub quotient : SFits w64 (pos (one-over x y))
+  pub word : toZ w64 (one-over x y) ≡ pos (one-over x y)
+  pub by-x : SFits w64 (pos (one-over x y) *ℤ x)
+  pub by-y : SFits w64 (pos (one-over x y) *ℤ y)
+  pub above : SFits w64 (pos (one-over x y) *ℤ x +ℤ pos 524288)
+  pub below : SFits w64 (pos 524288 -ℤ pos (one-over x y) *ℤ y)
   pub re : SFits w64 (made x y .re)
   pub im : SFits w64 (made x y .im)
   pub is : made x y ≡ reciprocal x y
@@ -87,7 +87,7 @@ centre-fits {x} {y} hx hy (least, (most, (a, (b, (c, (d, _)))))) = record {
   divisor = (narrow .0, narrow .1 .0);
   some = narrow .1 .1;
   quotient = sfits-size q-size tt;
-  word = word-pos (share x y) (omega (arith, pos-inj-le most));
+  word = word-pos (one-over x y) (omega (arith, pos-inj-le most));
   by-x = sfits-size by-x tt;
   by-y = sfits-size by-y tt;
   above = above;
@@ -103,22 +103,22 @@ centre-fits {x} {y} hx hy (least, (most, (a, (b, (c, (d, _)))))) = record {
     narrow : T (nonNeg (norm x y)) × (Fits w32 (natAbs (norm x y)) × (0 < natAbs (norm x y)))
     narrow = divisor (norm x y) least (s-size .hi)
 
-    q-size : Size (pos (share x y)) (two 31)
-    q-size = record { lo = lin (pos (share x y) ∷ []) (nonneg-pos (share x y) & none) (search reify depth 20) tt; hi = most }
+    q-size : Size (pos (one-over x y)) (two 31)
+    q-size = record { lo = lin (pos (one-over x y) ∷ []) (nonneg-pos (one-over x y) & none) (search reify depth 20) tt; hi = most }
 
-    by-x : Size (pos (share x y) *ℤ x) (two 31 *ℤ pos 31)
+    by-x : Size (pos (one-over x y) *ℤ x) (two 31 *ℤ pos 31)
     by-x = size-mul q-size hx
 
-    by-y : Size (pos (share x y) *ℤ y) (two 31 *ℤ pos 31)
+    by-y : Size (pos (one-over x y) *ℤ y) (two 31 *ℤ pos 31)
     by-y = size-mul q-size hy
 
     half : Size (pos 524288) (pos 524288)
     half = record { lo = record { le = tt }; hi = record { le = tt } }
 
-    above : SFits w64 (pos (share x y) *ℤ x +ℤ pos 524288)
+    above : SFits w64 (pos (one-over x y) *ℤ x +ℤ pos 524288)
     above = sfits-size (size-add by-x half) tt
 
-    below : SFits w64 (pos 524288 -ℤ pos (share x y) *ℤ y)
+    below : SFits w64 (pos 524288 -ℤ pos (one-over x y) *ℤ y)
     below = sfits-size (size-add half (size-neg by-y)) tt
 
 pub inverse-fits : {column row : ℤ} → InTable column row → InverseFits column row

@@ -1,5 +1,5 @@
 -- `tables::inverse` meets its contract: in every cell what it works out is 01's formula.
-use mathlib.Core.Path.{_∙_, ap}
+use mathlib.Core.Path.{ap}
 use Rattle.word.proofs.Fits.{back}
 use Rattle.table_numbers.specs.Rows.{entry}
 use Rattle.tables.proofs.Division.{InverseFits, inverse-fits}
@@ -30,16 +30,16 @@ mul-s-2 c = let f = facts c in let g = f .centre in simp (back, c .fits .row, f 
 add-s : tie.Need-add-s
 add-s c = let f = facts c in let g = f .centre in simp (back, c .fits .column, f .columns, c .fits .row, f .rows, g .fx, g .fy, g .xx, g .yy) (g .s)
 
-cast-share : tie.Need-cast-share
-cast-share c = let f = facts c in let g = f .centre in
+cast-one-over-s : tie.Need-cast-one-over-s
+cast-one-over-s c = let f = facts c in let g = f .centre in
     simp (back, c .fits .column, f .columns, c .fits .row, f .rows, g .fx, g .fy, g .xx, g .yy, g .s) (g .divisor)
 
-div-share : tie.Need-div-share
-div-share c = let f = facts c in let g = f .centre in
+div-one-over-s : tie.Need-div-one-over-s
+div-one-over-s c = let f = facts c in let g = f .centre in
     simp (back, c .fits .column, f .columns, c .fits .row, f .rows, g .fx, g .fy, g .xx, g .yy, g .s) (g .some)
 
-cast-share-2 : tie.Need-cast-share-2
-cast-share-2 c = let f = facts c in let g = f .centre in
+cast-one-over-s-2 : tie.Need-cast-one-over-s-2
+cast-one-over-s-2 c = let f = facts c in let g = f .centre in
     simp (back, c .fits .column, f .columns, c .fits .row, f .rows, g .fx, g .fy, g .xx, g .yy, g .s) (g .quotient)
 
 mul-re : tie.Need-mul-re
@@ -64,4 +64,4 @@ returns c = let f = facts c in let g = f .centre in
     (ap entry (g .is))
 
 pub inverse-spec : {M : Type 1} → statement M
-inverse-spec = tie.close (tie.spec mul-x add-x mul-y add-y mul-s mul-s-2 add-s cast-share div-share cast-share-2 mul-re add-re mul-im sub-im returns)
+inverse-spec = tie.close (tie.spec mul-x add-x mul-y add-y mul-s mul-s-2 add-s cast-one-over-s div-one-over-s cast-one-over-s-2 mul-re add-re mul-im sub-im returns)
