@@ -1,6 +1,6 @@
-//! 01, Where a step goes astray, a step that does not round as 02, E1 says, and a reduction that is
-//! not that of 02, E5: the product against the second implementation with one fault put in, on
-//! inputs at which the fault shows.
+//! 01, Where a step goes astray, a step that does not round as 02, E1 says, and a reduction or a
+//! reciprocal that is not that of 02, E5 and E6: the product against the second implementation with
+//! one fault put in, on inputs at which the fault shows.
 
 use compare::{numbers, observed};
 use reference::answer::{record, Figures};
@@ -30,6 +30,11 @@ enum Fault {
     /// Likewise the product with the reciprocal.
     ProductCut,
     ProductNearest,
+    /// A reciprocal by floor, without the half, with its second part cut towards zero, or with X
+    /// and Y exchanged.
+    ReciprocalFloor,
+    ReciprocalCut,
+    ReciprocalAcross,
     /// The new x used in making the new y.
     NewX,
     /// The half before the real logarithm lost.
@@ -148,6 +153,16 @@ impl Fault {
         }))
     }
 
+    fn reciprocal(self, x: i128, y: i128) -> Point {
+        let s = x * x + y * y;
+        match self {
+            ReciprocalFloor => point((2048 * x).div_euclid(s), (-2048 * y).div_euclid(s)),
+            ReciprocalCut => point(reciprocal(x, y).x, (s - 4096 * y) / (2 * s)),
+            ReciprocalAcross => reciprocal(y, x),
+            _ => reciprocal(x, y),
+        }
+    }
+
     /// None when the scaled point has no cell, as it may have none by rounding up to one.
     fn log(self, input: Log) -> Option<Point> {
         let reduction = logarithm::reduce(input.point(), W);
@@ -162,7 +177,7 @@ impl Fault {
         if !cell_xs().any(|x| x == cx) || !cell_ys().any(|y| y == cy) {
             return None;
         }
-        let product = scaled.times(reciprocal(cx, cy));
+        let product = scaled.times(self.reciprocal(cx, cy));
         let floor = self.floor(ProductCut, ProductNearest);
         let [x, y] = [product.x, product.y].map(|part| floor(part, 6));
         let (mut near_one, mut answer) =
@@ -278,6 +293,28 @@ fn scale_of_log() {
     }
 }
 
+/// LOG's reciprocals: at the centre of each cell that has it in the cone, a fault shows exactly
+/// where it changes the cell's reciprocal.
+#[test]
+fn reciprocals_of_log() {
+    for fault in [ReciprocalFloor, ReciprocalCut, ReciprocalAcross] {
+        let mut shown = 0;
+        for (cx, cy) in cell_xs().flat_map(|cx| cell_ys().map(move |cy| (cx, cy))) {
+            if -cx < cy && cy <= cx {
+                let input = Log { n: 40, x: (cx << 43) as i64, y: (cy << 43) as i64 };
+                let seen = product_log(input);
+                assert_eq!(seen, Right.log(input), "{input:?}");
+                let shows = seen != fault.log(input);
+                let changes = fault.reciprocal(cx, cy) != reciprocal(cx, cy);
+                assert_eq!(shows, changes, "{fault:?} at {input:?}");
+                shown += u32::from(shows);
+            }
+        }
+        println!("{fault:?}: {shown} cells");
+        assert!(shown > 60);
+    }
+}
+
 /// Each fault shows at many of the random inputs, and at none of them in the product.
 #[test]
 fn random_inputs() {
@@ -317,6 +354,9 @@ fn random_inputs() {
         ScaleNearest,
         ProductCut,
         ProductNearest,
+        ReciprocalFloor,
+        ReciprocalCut,
+        ReciprocalAcross,
         NewX,
         HalfLost,
         MinusSquares,

@@ -64,11 +64,11 @@ fn cells(of: impl Fn(i128, i128) -> Point) -> Vec<Point> {
     cell_xs().flat_map(|x| cell_ys().map(move |y| (x, y))).map(|(x, y)| of(x, y)).collect()
 }
 
-/// 02, E6: each of the 256 cells keeps the seat that was stored for it.
+/// 02, E6: each of the 256 cells keeps the reciprocal ("seat") that was stored for it.
 #[test]
-fn seats() {
-    let stored = include_str!("seats.txt").split_whitespace().map(|seat| {
-        let (a, b) = seat.split_once(',').unwrap();
+fn stored_reciprocals() {
+    let stored = include_str!("stored_reciprocals.txt").split_whitespace().map(|pair| {
+        let (a, b) = pair.split_once(',').unwrap();
         point(a.parse().unwrap(), b.parse().unwrap())
     });
     assert_eq!(stored.collect::<Vec<_>>(), cells(reciprocal));
