@@ -73,11 +73,11 @@ struct answer engine_exp(int64_t n, int64_t ex, int64_t ey, int64_t sx, int64_t 
     return (struct answer){.x = x, .y = y, .k = k, .bound = bound};
 }
 
-/* 64 times the reciprocal of (x + iy)/32, each part as floor(value + 1/2). One division serves both: 2^31/S is cut, but no
+/* 64 times the reciprocal of (x + iy)/32, each part as floor(value + 1/2). One division serves both: 2^27/S is cut, but no
    part is so near a half that it would tell. */
 static struct entry reciprocal(int32_t x, int32_t y) {
-    int32_t one_over_s = (int32_t)((UINT32_C(1) << 31) / (uint32_t)(x * x + y * y));
-    return (struct entry){(one_over_s * x + (1 << 19)) >> 20, ((1 << 19) - one_over_s * y) >> 20};
+    int32_t one_over_s = (int32_t)((UINT32_C(1) << 27) / (uint32_t)(x * x + y * y));
+    return (struct entry){(one_over_s * x + (1 << 15)) >> 16, ((1 << 15) - one_over_s * y) >> 16};
 }
 
 struct answer engine_log(int64_t n, int64_t px, int64_t py) {

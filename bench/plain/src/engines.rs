@@ -103,10 +103,10 @@ pub fn exp(n: i64, ex: i64, ey: i64, sx: i64, sy: i64) -> Result<Figures, Refusa
 }
 
 /// 64 times the reciprocal of (x + iy)/32, each part as floor(value + 1/2). One division serves
-/// both: 2^31/S is cut, but no part is so near a half that it would tell.
+/// both: 2^27/S is cut, but no part is so near a half that it would tell.
 fn reciprocal(x: i32, y: i32) -> (i64, i64) {
-    let one_over_s = ((1 << 31) / (x * x + y * y) as u32) as i32;
-    let part = |value: i32| i64::from((value + (1 << 19)) >> 20);
+    let one_over_s = ((1 << 27) / (x * x + y * y) as u32) as i32;
+    let part = |value: i32| i64::from((value + (1 << 15)) >> 16);
     (part(one_over_s * x), part(-one_over_s * y))
 }
 

@@ -29,7 +29,7 @@ abbrev facts : ℤ → ℤ → List (ℤ × ℤ)
 facts x y =
     let z = inverse x y in
     let w = reciprocal x y in
-    (pos 1, norm x y) ∷ (pos (one-over x y), two 31) ∷ (z .re, w .re) ∷ (w .re, z .re) ∷ (z .im, w .im) ∷ (w .im, z .im) ∷ []
+    (pos 1, norm x y) ∷ (pos (one-over x y), two 27) ∷ (z .re, w .re) ∷ (w .re, z .re) ∷ (z .im, w .im) ∷ (w .im, z .im) ∷ []
 
 test : ℤ → ℤ → Bool
 test column row = les (facts (centre column) (centre row))
@@ -72,13 +72,13 @@ fits {x} {y} hx hy (least, (most, _)) = record {
     narrow : T (nonNeg (norm x y)) × (Fits w32 (natAbs (norm x y)) × (0 < natAbs (norm x y)))
     narrow = divisor (norm x y) least (s-size .hi)
 
-    q-size : Size (pos (one-over x y)) (two 31)
+    q-size : Size (pos (one-over x y)) (two 27)
     q-size = record { lo = lin (pos (one-over x y) ∷ []) (nonneg-pos (one-over x y) & none) (search reify depth 20) tt; hi = most }
 
     small : one-over x y < 2 ^ 63
     small = omega (arith, pos-inj-le most)
 
-    half : Size (pos 524288) (pos 524288)
+    half : Size (pos 32768) (pos 32768)
     half = record { lo = record { le = tt }; hi = record { le = tt } }
 
 pub record CentreFits (column row : ℤ) : Type 0 where

@@ -24,15 +24,15 @@ pub record CellFits (column row : ℤ) : Type 0 where
   pub sign : T (nonNeg (numbered column row))
   pub below : natAbs (numbered column row) < 256
 
--- the reciprocal of a cell's centre as it is worked out: 2^31/S, cut, times X and −Y, each to the nearest
+-- the reciprocal of a cell's centre as it is worked out: 2^27/S, cut, times X and −Y, each to the nearest
 abbrev pub norm : ℤ → ℤ → ℤ
 norm x y = x *ℤ x +ℤ y *ℤ y
 
 abbrev pub one-over : ℤ → ℤ → ℕ
-one-over x y = 2147483648 / natAbs (norm x y)
+one-over x y = 134217728 / natAbs (norm x y)
 
 abbrev pub inverse : ℤ → ℤ → 𝔾
-inverse x y = gi (shrZ (pos (one-over x y) *ℤ x +ℤ pos 524288) (2 ^ 20)) (shrZ (pos 524288 -ℤ pos (one-over x y) *ℤ y) (2 ^ 20))
+inverse x y = gi (shrZ (pos (one-over x y) *ℤ x +ℤ pos 32768) (2 ^ 16)) (shrZ (pos 32768 -ℤ pos (one-over x y) *ℤ y) (2 ^ 16))
 
 -- nothing on the way to it overflows
 pub record InverseFits (x y : ℤ) : Type 0 where
@@ -45,5 +45,5 @@ pub record InverseFits (x y : ℤ) : Type 0 where
   pub word : toZ w64 (one-over x y) ≡ pos (one-over x y)
   pub by-x : SFits w64 (pos (one-over x y) *ℤ x)
   pub by-y : SFits w64 (pos (one-over x y) *ℤ y)
-  pub above : SFits w64 (pos (one-over x y) *ℤ x +ℤ pos 524288)
-  pub below : SFits w64 (pos 524288 -ℤ pos (one-over x y) *ℤ y)
+  pub above : SFits w64 (pos (one-over x y) *ℤ x +ℤ pos 32768)
+  pub below : SFits w64 (pos 32768 -ℤ pos (one-over x y) *ℤ y)

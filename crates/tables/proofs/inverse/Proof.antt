@@ -38,7 +38,7 @@ sub-im c = let f = c .pre in simp (back, c .fits .x, c .fits .y, f .xx, f .yy, f
 
 returns : tie.Need-returns
 returns c = let f = c .pre in
-    simp (back, c .fits .x, c .fits .y, f .xx, f .yy, f .s, f .word, f .by-x, f .by-y, f .above, f .below, sfits-shift (2 ^ 20) (f .above), sfits-shift (2 ^ 20) (f .below))
+    simp (back, c .fits .x, c .fits .y, f .xx, f .yy, f .s, f .word, f .by-x, f .by-y, f .above, f .below, sfits-shift (2 ^ 16) (f .above), sfits-shift (2 ^ 16) (f .below))
 
 pub inverse-spec : {M : Type 1} → statement M
 inverse-spec = tie.close (tie.spec mul-s mul-s-2 add-s cast-one-over-s div-one-over-s cast-one-over-s-2 mul-re add-re mul-im sub-im returns)
