@@ -6,4 +6,4 @@
 #     sh examples/small_bounds.sh LIMIT < examples/kernels.sheet
 limit=${1:?usage: small_bounds.sh LIMIT < SHEET}
 program=${BKM_PROGRAM:-$(dirname "$0")/../target/bin/bkm}
-"$program" | awk -F '\t' -v limit="$limit" '$2 == "EXP" && $NF * 2 ^ $6 <= limit + 0 || $2 == "LOG" && $NF + 0 <= limit + 0'
+"$program" | awk -F '\t' -v limit="$limit" '$2 == "EXP" && $NF * 2 ^ $(NF - 1) <= limit + 0 || $2 == "LOG" && $NF + 0 <= limit + 0'

@@ -28,7 +28,7 @@ static int64_t number(const uint8_t *record, int i) {
 int main(void) {
     for (size_t i = 0; i < sizeof outline / sizeof *outline; i++) {
         int64_t x = (int64_t)(outline[i][0] * ONE), y = (int64_t)(outline[i][1] * ONE);
-        uint8_t record[48];
+        uint8_t record[64];
         int64_t refusal = bkm_exp(STEPS, 0, (int64_t)(0.5 * ONE), x, y, record, sizeof record);
         if (refusal != 0) {
             fprintf(stderr, "point %zu: refused with %" PRId64 "\n", i, refusal);

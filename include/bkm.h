@@ -4,7 +4,7 @@
  * Link target/staticlib/libcontroller.a, which `rt staticlib controller` writes.
  *
  * A point is a pair of signed 64-bit numbers of units, so one is 281474976710656.
- * bkm_exp and bkm_log write a record of 48 bytes to out: six signed 8-byte numbers,
+ * bkm_exp and bkm_log write a record of 64 bytes to out: eight signed 8-byte numbers,
  * two's complement, low byte first.
  *
  *     bytes  0 to  7   the refusal number, or 0
@@ -13,17 +13,22 @@
  *           24 to 31   k, the binary exponent
  *           32 to 39   q, the quadrant, -2 to 2 (0 for EXP)
  *           40 to 47   the error bound, in units (for EXP, times 2^k)
+ *           48 to 55   the first part of the remainder, in units
+ *           56 to 63   the second part, likewise
  *
- * The call returns the refusal number, or 0. In a refused record the other five
+ * The remainder is what the n steps have left over; how near it is to nought says how far
+ * they have come. Each of its parts is below 2^(48-n) in size, that is 1/2^n.
+ *
+ * The call returns the refusal number, or 0. In a refused record the other seven
  * numbers are 0. Refusals, the first that holds:
  *
- *     6   out_len is under 48; nothing is written
+ *     6   out_len is under 64; nothing is written
  *     1   n is out of range
  *     2   EXP: a part of the exponent is over 8 in size, that is 2^51 units
  *     3   a part of the start or of the point is over 2^58 in size
  *     4   LOG: the point is zero
  *
- * out points to out_len bytes that the caller lends; those past the 48 keep their
+ * out points to out_len bytes that the caller lends; those past the 64 keep their
  * values. Every input is allowed; no call fails in another way, keeps memory or has
  * state of its own.
  */
@@ -51,6 +56,12 @@ extern "C" {
  * 55/64, and ey at most 206708186021888 in size, that is 47/64. Outside it k is from -12 to
  * 12, and M is the larger of the sizes of the parts of the start times 1, 1+i, i, -1+i, -1,
  * -1-i, -i or 1-i, by p modulo 8, where p is ey/2^48 over pi/4, rounded.
+ *
+ * The remainder is what the steps have left of the exponent; outside the rectangle they run on
+ * what p eighths of a turn and k doublings leave of it. With r the remainder over 2^48, the
+ * product is 2^k times the answer times exp(r), each part off by at most 2^k times
+ * (12*n + 51)*M/2^48 + 2*n + 3: so much is due to rounding, the rest of the error to what is
+ * left over.
  */
 int64_t bkm_exp(int64_t n, int64_t ex, int64_t ey, int64_t sx, int64_t sy, uint8_t *out, size_t out_len);
 
@@ -66,6 +77,11 @@ int64_t bkm_exp(int64_t n, int64_t ex, int64_t ey, int64_t sx, int64_t sy, uint8
  * The point is i^q * w for a w with -wx < wy <= wx. Its angle, q quarter turns and that
  * of w, lies above minus half a turn and at most at half a turn: q >= 0 for y >= 0, and
  * q <= 0 for y < 0. A point straight to the left has q = 2, one just below it -2.
+ *
+ * The steps bring the point, turned and scaled, near one; the remainder is where it is after the
+ * last of them, less one. With r the remainder over 2^48, the point is
+ * 2^(48+k) * i^q * exp(z) * (1 + r), each part off by at most (10*n + 3)*M/2^48: so much is due
+ * to rounding, the rest of the error to what is left over.
  */
 int64_t bkm_log(int64_t n, int64_t x, int64_t y, uint8_t *out, size_t out_len);
 

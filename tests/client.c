@@ -31,13 +31,18 @@ static int64_t number(const uint8_t *record, int i)
     return value;
 }
 
-static int holds(const uint8_t *out, int64_t refusal, int64_t x, int64_t y, int64_t k, int64_t q, int64_t bound)
+static int holds(const uint8_t *out, const int64_t wanted[8])
 {
-    const int64_t wanted[6] = {refusal, x, y, k, q, bound};
-    for (int i = 0; i < 6; i++)
+    for (int i = 0; i < 8; i++)
         if (number(out, i) != wanted[i])
             return 0;
     return 1;
+}
+
+/* All behind the number is 0. */
+static int refused(const uint8_t *out, int64_t refusal)
+{
+    return holds(out, (const int64_t[8]){refusal});
 }
 
 static int all(const uint8_t *bytes, size_t length, uint8_t value)
@@ -51,35 +56,36 @@ static int all(const uint8_t *bytes, size_t length, uint8_t value)
 int main(void)
 {
     const int64_t one = INT64_C(1) << 48, eight = 8 * one, most = INT64_C(1) << 58;
-    uint8_t out[64];
+    uint8_t out[80];
 
     memset(out, 0xa5, sizeof out);
     check("EXP of nought hands back 0", bkm_exp(40, 0, 0, one, 0, out, sizeof out) == 0);
-    check("and the start, with the column 2128", holds(out, 0, one, 0, 0, 0, 2128));
-    check("bytes past the 48 keep their values", all(out + 48, 16, 0xa5));
+    check("and the start, with the column 2128 and nothing left over", holds(out, (const int64_t[8]){0, one, 0, 0, 0, 2128, 0, 0}));
+    check("bytes past the 64 keep their values", all(out + 64, 16, 0xa5));
 
-    check("N = 0 is refused before the exponent", bkm_exp(0, INT64_MAX, 0, one, 0, out, 48) == 1 && holds(out, 1, 0, 0, 0, 0, 0));
-    check("an exponent past 55/64 is taken: k is 1", bkm_exp(40, INT64_C(241892558110721), 0, one, 0, out, 48) == 0 && number(out, 3) == 1);
-    check("an exponent of 8 - 8i", bkm_exp(40, eight, -eight, one, 0, out, 48) == 0 && holds(out, 0, -INT64_C(29805663453324), -INT64_C(202669911213431), 12, 0, 2128));
-    check("an exponent past 8", bkm_exp(40, eight + 1, 0, one, 0, out, 48) == 2 && holds(out, 2, 0, 0, 0, 0, 0));
-    check("and past -8", bkm_exp(40, 0, -eight - 1, one, 0, out, 48) == 2 && holds(out, 2, 0, 0, 0, 0, 0));
-    check("a start of -2^63", bkm_exp(40, 0, 0, INT64_MIN, 0, out, 48) == 3 && holds(out, 3, 0, 0, 0, 0, 0));
-    check("a start of 2^58 is taken", bkm_exp(1, 0, 0, most, -most, out, 48) == 0);
+    check("N = 0 is refused before the exponent", bkm_exp(0, INT64_MAX, 0, one, 0, out, 64) == 1 && refused(out, 1));
+    check("an exponent past 55/64 is taken: k is 1", bkm_exp(40, INT64_C(241892558110721), 0, one, 0, out, 64) == 0 && number(out, 3) == 1);
+    check("an exponent of 8 - 8i", bkm_exp(40, eight, -eight, one, 0, out, 64) == 0 && holds(out, (const int64_t[8]){0, -INT64_C(29805663453324), -INT64_C(202669911213431), 12, 0, 2128, -96, 119}));
+    check("an exponent past 8", bkm_exp(40, eight + 1, 0, one, 0, out, 64) == 2 && refused(out, 2));
+    check("and past -8", bkm_exp(40, 0, -eight - 1, one, 0, out, 64) == 2 && refused(out, 2));
+    check("a start of -2^63", bkm_exp(40, 0, 0, INT64_MIN, 0, out, 64) == 3 && refused(out, 3));
+    check("a start of 2^58 is taken", bkm_exp(1, 0, 0, most, -most, out, 64) == 0);
 
-    check("LOG of one: k is 1 and q is 0", bkm_log(40, one, 0, out, 48) == 0 && number(out, 3) == 1 && number(out, 4) == 0);
-    check("LOG of (5, -5): q is -1", bkm_log(40, 5, -5, out, 48) == 0 && number(out, 4) == -1);
-    check("LOG of (-1, 0), straight to the left: q is 2", bkm_log(40, -1, 0, out, 48) == 0 && number(out, 4) == 2);
-    check("LOG of (-5, 1): q is 2", bkm_log(40, -5, 1, out, 48) == 0 && number(out, 4) == 2);
-    check("LOG of (-5, -1): q is -2", bkm_log(40, -5, -1, out, 48) == 0 && number(out, 4) == -2);
-    check("LOG of zero", bkm_log(40, 0, 0, out, 48) == 4 && holds(out, 4, 0, 0, 0, 0, 0));
-    check("LOG with N = 2", bkm_log(2, one, 0, out, 48) == 1 && holds(out, 1, 0, 0, 0, 0, 0));
+    check("LOG of one: k is 1 and q is 0", bkm_log(40, one, 0, out, 64) == 0 && number(out, 3) == 1 && number(out, 4) == 0);
+    check("with N = 3 it comes to (1080 - 63i)/1024", bkm_log(3, one, 0, out, 64) == 0 && number(out, 6) == 56 * (one >> 10) && number(out, 7) == -63 * (one >> 10));
+    check("LOG of (5, -5): q is -1", bkm_log(40, 5, -5, out, 64) == 0 && number(out, 4) == -1);
+    check("LOG of (-1, 0), straight to the left: q is 2", bkm_log(40, -1, 0, out, 64) == 0 && number(out, 4) == 2);
+    check("LOG of (-5, 1): q is 2", bkm_log(40, -5, 1, out, 64) == 0 && number(out, 4) == 2);
+    check("LOG of (-5, -1): q is -2", bkm_log(40, -5, -1, out, 64) == 0 && number(out, 4) == -2);
+    check("LOG of zero", bkm_log(40, 0, 0, out, 64) == 4 && refused(out, 4));
+    check("LOG with N = 2", bkm_log(2, one, 0, out, 64) == 1 && refused(out, 1));
 
     memset(out, 0x5a, sizeof out);
-    check("47 bytes are refused with 6", bkm_exp(0, 0, 0, 0, 0, out, 47) == 6 && bkm_log(0, 0, 0, out, 47) == 6);
+    check("63 bytes are refused with 6", bkm_exp(0, 0, 0, 0, 0, out, 63) == 6 && bkm_log(0, 0, 0, out, 63) == 6);
     check("and so is no buffer at all", bkm_exp(40, 0, 0, one, 0, out, 0) == 6);
     check("and nothing is written", all(out, sizeof out, 0x5a));
 
-    const char *line = "1\tEXP\t40\t0\t0\t281474976710656\t0", *answer = "1\tEXP\t40\t281474976710656\t0\t0\t2128\n";
+    const char *line = "1\tEXP\t40\t0\t0\t281474976710656\t0", *answer = "1\tEXP\t40\t281474976710656\t0\t0\t0\t0\t2128\n";
     uint8_t text[130];
     memset(text, 0xa5, sizeof text);
     size_t length = bkm_line((const uint8_t *)line, strlen(line), text, sizeof text);

@@ -1,10 +1,9 @@
 //! An outline turned to and fro, as it was when steps rounded by floor and as it is.
 
-use crate::calls;
 use crate::svg::{Axis, Page, Panel};
 use reference::exponential::Input;
 use reference::outline::{angles, kernel, mean_drift, to_and_fro, turned_by};
-use reference::point::{floor_quotient, point, word, Point};
+use reference::point::{floor_quotient, word, Point};
 
 /// So small that units are seen.
 const SIZE: f64 = 2000.0;
@@ -14,8 +13,7 @@ const TURNS: usize = 100;
 /// By the product.
 fn turned(p: Point, angle: i64) -> Point {
     let input = Input { n: 40, ex: 0, ey: angle, sx: word(p.x), sy: word(p.y) };
-    let figures = calls::exp(input).expect("a start that EXP takes");
-    point(figures.x.into(), figures.y.into())
+    compare::exp_figures(input).expect("a start that EXP takes").parts()
 }
 
 fn outlines(turn: impl Fn(Point, i64) -> Point) -> Vec<Vec<Point>> {

@@ -1,8 +1,7 @@
 //! Observed errors against the bound that is proved, for every N.
 
-use crate::calls;
 use crate::svg::{Axis, Page, Panel};
-use reference::closeness::{exp_closeness, log_closeness};
+use reference::closeness::{exp_closeness, log_closeness, Claim};
 use reference::exponential::Input as Exp;
 use reference::logarithm::Input as Log;
 use reference::samples::{exp_input, log_input, Random};
@@ -17,12 +16,12 @@ type Fractions = fn(&mut Random, i64) -> Option<f64>;
 
 fn exp_fraction(random: &mut Random, n: i64) -> Option<f64> {
     let input = Exp { n, ..exp_input(random, W) };
-    Some(exp_closeness(input, calls::exp(input)?, W).fraction())
+    Some(exp_closeness(input, compare::exp_figures(input)?, Claim::Column, W).fraction())
 }
 
 fn log_fraction(random: &mut Random, n: i64) -> Option<f64> {
     let input = Log { n, ..log_input(random, W) };
-    Some(log_closeness(input, calls::log(input)?, W).fraction())
+    Some(log_closeness(input, compare::log_figures(input)?, Claim::Column, W).fraction())
 }
 
 fn panel(page: &mut Page, left: f64, title: &str, given: &str, first: i64, fraction: Fractions) {

@@ -2,7 +2,6 @@
 //!
 //!     cargo run --release --offline --manifest-path bench/Cargo.toml -p pictures [FOLDER]
 
-mod calls;
 mod drift;
 mod error;
 mod outline;

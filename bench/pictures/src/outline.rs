@@ -1,7 +1,6 @@
 //! A barley kernel's outline turned by EXP, and the logarithms of its points: there a turn is
 //! a shift.
 
-use crate::calls;
 use crate::svg::{Axis, Page, Panel};
 use reference::answer::Figures;
 use reference::exponential::{rectangle, Input as Exp};
@@ -19,7 +18,7 @@ const N: i64 = 40;
 /// The outline times exp(i·angle), angle in units.
 fn turned(outline: &[Point], angle: i64) -> Vec<Figures> {
     let exp = |p: &Point| Exp { n: N, ex: 0, ey: angle, sx: word(p.x), sy: word(p.y) };
-    outline.iter().map(|p| calls::exp(exp(p)).expect("a start that EXP takes")).collect()
+    outline.iter().map(|p| compare::exp_figures(exp(p)).expect("a start that EXP takes")).collect()
 }
 
 fn ones(units: i64) -> f64 {
@@ -28,7 +27,8 @@ fn ones(units: i64) -> f64 {
 
 /// The angle in degrees and the logarithm of the length.
 fn logarithm(point: &Figures) -> (f64, f64) {
-    let log = calls::log(Log { n: N, x: point.x, y: point.y }).expect("a point that LOG takes");
+    let log =
+        compare::log_figures(Log { n: N, x: point.x, y: point.y }).expect("a point that LOG takes");
     let angle = ones(log.y) + log.quadrant as f64 * FRAC_PI_2;
     (angle.to_degrees(), ones(log.x) + log.binary_exponent as f64 * LN_2)
 }

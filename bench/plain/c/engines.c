@@ -70,7 +70,7 @@ struct answer engine_exp(int64_t n, int64_t ex, int64_t ey, int64_t sx, int64_t 
         ex -= entry.re;
         ey -= entry.im;
     }
-    return (struct answer){.x = x, .y = y, .k = k, .bound = bound};
+    return (struct answer){.x = x, .y = y, .k = k, .bound = bound, .remainder_x = ex, .remainder_y = ey};
 }
 
 /* 64 times the reciprocal of (x + iy)/32, each part as floor(value + 1/2). One division serves both: 2^27/S is cut, but no
@@ -121,11 +121,12 @@ struct answer engine_log(int64_t n, int64_t px, int64_t py) {
         answer_x -= entry.re;
         answer_y -= entry.im;
     }
-    return (struct answer){.x = answer_x, .y = answer_y, .k = k, .q = q, .bound = share(3, px, py, n)};
+    return (struct answer){.x = answer_x, .y = answer_y, .k = k, .q = q, .bound = share(3, px, py, n),
+                           .remainder_x = x - ONE, .remainder_y = y};
 }
 
 /* A machine that stores the low byte first holds a record as it is. */
-_Static_assert(sizeof(struct answer) == 48 && __BYTE_ORDER__ == __ORDER_LITTLE_ENDIAN__, "the record");
+_Static_assert(sizeof(struct answer) == 64 && __BYTE_ORDER__ == __ORDER_LITTLE_ENDIAN__, "the record");
 
 static int64_t write_record(struct answer answer, uint8_t *out) {
     memcpy(out, &answer, sizeof answer);
@@ -133,9 +134,9 @@ static int64_t write_record(struct answer answer, uint8_t *out) {
 }
 
 int64_t plain_exp(int64_t n, int64_t ex, int64_t ey, int64_t sx, int64_t sy, uint8_t *out, size_t len) {
-    return len < 48 ? 6 : write_record(engine_exp(n, ex, ey, sx, sy), out);
+    return len < sizeof(struct answer) ? 6 : write_record(engine_exp(n, ex, ey, sx, sy), out);
 }
 
 int64_t plain_log(int64_t n, int64_t x, int64_t y, uint8_t *out, size_t len) {
-    return len < 48 ? 6 : write_record(engine_log(n, x, y), out);
+    return len < sizeof(struct answer) ? 6 : write_record(engine_log(n, x, y), out);
 }

@@ -7,7 +7,7 @@
 
 /* The numbers of a record in their order; all but the first are 0 when refused. */
 struct answer {
-    int64_t refusal, x, y, k, q, bound;
+    int64_t refusal, x, y, k, q, bound, remainder_x, remainder_y;
 };
 
 struct answer engine_exp(int64_t n, int64_t ex, int64_t ey, int64_t sx, int64_t sy);

@@ -92,8 +92,8 @@ static char *answer_line(const char *at, const char *end, char *out) {
     if (a.refusal != 0)
         return put_refusal(out, serial, a.refusal);
     if (is_exp)
-        return put_line(out, serial, "EXP", (int64_t[]){v[0], a.x, a.y, a.k, a.bound}, 5);
-    return put_line(out, serial, "LOG", (int64_t[]){v[0], a.x, a.y, a.k, a.q, a.bound}, 6);
+        return put_line(out, serial, "EXP", (int64_t[]){v[0], a.x, a.y, a.remainder_x, a.remainder_y, a.k, a.bound}, 7);
+    return put_line(out, serial, "LOG", (int64_t[]){v[0], a.x, a.y, a.remainder_x, a.remainder_y, a.k, a.q, a.bound}, 8);
 }
 
 /* ---- the streams */

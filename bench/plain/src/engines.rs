@@ -1,4 +1,4 @@
-//! EXP and LOG, and the record of 48 bytes that the C calls fill.
+//! EXP and LOG, and the record of 64 bytes that the C calls fill.
 
 use crate::tables::{EIGHTH_TURN, HALF_LN_2, LN_2, RECIPROCAL_LOGS, STEPS};
 
@@ -21,6 +21,8 @@ pub struct Figures {
     pub k: i64,
     pub q: i64,
     pub bound: i64,
+    pub remainder_x: i64,
+    pub remainder_y: i64,
 }
 
 const ONE: i64 = 1 << 48;
@@ -99,7 +101,7 @@ pub fn exp(n: i64, ex: i64, ey: i64, sx: i64, sy: i64) -> Result<Figures, Refusa
         ex -= re;
         ey -= im;
     }
-    Ok(Figures { x, y, k, q: 0, bound })
+    Ok(Figures { x, y, k, q: 0, bound, remainder_x: ex, remainder_y: ey })
 }
 
 /// 64 times the reciprocal of (x + iy)/32, each part as floor(value + 1/2). One division serves
@@ -148,17 +150,18 @@ pub fn log(n: i64, px: i64, py: i64) -> Result<Figures, Refusal> {
         answer_x -= re;
         answer_y -= im;
     }
-    Ok(Figures { x: answer_x, y: answer_y, k, q, bound: share(3, px, py, n) })
+    let bound = share(3, px, py, n);
+    Ok(Figures { x: answer_x, y: answer_y, k, q, bound, remainder_x: x - ONE, remainder_y: y })
 }
 
 /// What the C calls write and hand back.
 fn write_record(answer: Result<Figures, Refusal>, out: &mut [u8]) -> i64 {
-    if out.len() < 48 {
+    if out.len() < 64 {
         return Refusal::Buffer as i64;
     }
     let numbers = match answer {
-        Ok(f) => [0, f.x, f.y, f.k, f.q, f.bound],
-        Err(refusal) => [refusal as i64, 0, 0, 0, 0, 0],
+        Ok(f) => [0, f.x, f.y, f.k, f.q, f.bound, f.remainder_x, f.remainder_y],
+        Err(refusal) => [refusal as i64, 0, 0, 0, 0, 0, 0, 0],
     };
     for (bytes, number) in out.chunks_exact_mut(8).zip(numbers) {
         bytes.copy_from_slice(&number.to_le_bytes());

@@ -56,14 +56,14 @@ pub fn answer_line(largest: &mut i64, line: &[u8], out: &mut impl Write) -> io::
     *largest = serial;
     match call {
         Call::Exp([n, ex, ey, sx, sy]) => match exp(n, ex, ey, sx, sy) {
-            Ok(Figures { x, y, k, bound, .. }) => {
-                writeln!(out, "{serial}\tEXP\t{n}\t{x}\t{y}\t{k}\t{bound}")
+            Ok(Figures { x, y, remainder_x: rx, remainder_y: ry, k, bound, .. }) => {
+                writeln!(out, "{serial}\tEXP\t{n}\t{x}\t{y}\t{rx}\t{ry}\t{k}\t{bound}")
             }
             Err(refusal) => refuse(out, serial, refusal),
         },
         Call::Log([n, x, y]) => match log(n, x, y) {
-            Ok(Figures { x, y, k, q, bound }) => {
-                writeln!(out, "{serial}\tLOG\t{n}\t{x}\t{y}\t{k}\t{q}\t{bound}")
+            Ok(Figures { x, y, remainder_x: rx, remainder_y: ry, k, q, bound }) => {
+                writeln!(out, "{serial}\tLOG\t{n}\t{x}\t{y}\t{rx}\t{ry}\t{k}\t{q}\t{bound}")
             }
             Err(refusal) => refuse(out, serial, refusal),
         },

@@ -1,9 +1,9 @@
 //! The plain versions against the second implementation of the tests.
 
 use plain::{c, engines, merge, sheet};
-use reference::answer::write_record;
+use reference::answer::{write_record, RECORD_BYTES};
 use reference::damage::{every_damage, longest_line, merges};
-use reference::edges::{exp_refusals, exp_scales, far_exp_records};
+use reference::edges::{exp_refusals, exp_scales, far_exp_records, EXP, LOG};
 use reference::merge::merge_into;
 use reference::samples::{self, exp_input, line, log_input, Random};
 use reference::width::WIDTH_48 as W;
@@ -15,8 +15,8 @@ use std::thread;
 const SAMPLES: usize = 200_000;
 
 /// What a call hands back and writes.
-fn outcome(call: impl FnOnce(&mut [u8]) -> i64) -> (i64, [u8; 48]) {
-    let mut out = [0; 48];
+fn outcome(call: impl FnOnce(&mut [u8]) -> i64) -> (i64, [u8; RECORD_BYTES]) {
+    let mut out = [0; RECORD_BYTES];
     (call(&mut out), out)
 }
 
@@ -48,6 +48,26 @@ fn log() {
         if let Some(c) = c::VERSION {
             let c = outcome(|out| (c.log_record)(i.n, i.x, i.y, out));
             assert_eq!(c, theirs, "{i:?}");
+        }
+    }
+}
+
+/// Bytes past the record keep their values; a buffer that is too short keeps all.
+#[test]
+fn lent_buffers() {
+    for length in 0..=2 * RECORD_BYTES {
+        let lent = |call: &dyn Fn(&mut [u8]) -> i64| {
+            let mut out = vec![0xa5; length];
+            (call(&mut out), out)
+        };
+        let (e, l) = (EXP, LOG);
+        let exp = lent(&|out| write_record(exponential::exp(e, W), out));
+        let log = lent(&|out| write_record(logarithm::log(l, W), out));
+        assert_eq!(lent(&|out| engines::exp_record(e.n, e.ex, e.ey, e.sx, e.sy, out)), exp);
+        assert_eq!(lent(&|out| engines::log_record(l.n, l.x, l.y, out)), log);
+        if let Some(c) = c::VERSION {
+            assert_eq!(lent(&|out| (c.exp_record)(e.n, e.ex, e.ey, e.sx, e.sy, out)), exp);
+            assert_eq!(lent(&|out| (c.log_record)(l.n, l.x, l.y, out)), log);
         }
     }
 }

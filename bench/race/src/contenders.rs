@@ -1,6 +1,7 @@
 //! Who runs: the product, the plain versions, and the libraries of other.c.
 
 use crate::operation::Operation;
+use reference::answer::RECORD_BYTES;
 use reference::exponential::Input as Exp;
 use reference::fixed::Complex;
 use reference::logarithm::Input as Log;
@@ -63,7 +64,7 @@ pub fn contenders<Input: Operation>() -> Vec<Contender<Input>> {
 
 #[inline(always)]
 fn fill_records<Input: Copy>(inputs: &[Input], call: impl Fn(Input, &mut [u8]) -> i64) {
-    let mut out = [0u8; 48];
+    let mut out = [0; RECORD_BYTES];
     for &input in inputs {
         call(input, &mut out);
         black_box(&mut out);
@@ -71,7 +72,7 @@ fn fill_records<Input: Copy>(inputs: &[Input], call: impl Fn(Input, &mut [u8]) -
 }
 
 fn from_record<Input: Operation>(input: Input, call: fn(Input, &mut [u8]) -> i64) -> Answer {
-    let mut out = [0u8; 48];
+    let mut out = [0; RECORD_BYTES];
     assert_eq!(call(input, &mut out), 0, "refused");
     let number = |i: usize| i64::from_le_bytes(out[8 * i..8 * i + 8].try_into().unwrap());
     Input::answer([1, 2, 3, 4, 5].map(number))

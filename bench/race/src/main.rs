@@ -15,6 +15,7 @@ use callgrind::instructions_per_item;
 use contenders::{contenders, missing, Contender, STEPS};
 use effort::{Effort, FULL, QUICK};
 use operation::{Course, Operation, EXP, FAR_EXP, LOG};
+use reference::answer::RECORD_BYTES;
 use reference::exponential::Input as Exp;
 use reference::logarithm::Input as Log;
 use reference::samples::Random;
@@ -86,7 +87,7 @@ fn calls<Input: Operation>(course: &Course<Input>, place: &str, count: &str) {
 
 fn compare_versions<Input: Operation>(effort: &Effort) {
     let outcome = |input: Input, call: fn(Input, &mut [u8]) -> i64| {
-        let mut out = [0; 48];
+        let mut out = [0; RECORD_BYTES];
         (call(input, &mut out), out)
     };
     let mut random = Random::new(32);

@@ -3,18 +3,27 @@ use mathlib.Core.List.{List, [], _∷_}
 use Prim.Native.Nat.{ℕ}
 use lib.IntN.{ℤ, pos}
 use lib.ListN.{getD}
+use Rattle.point.specs.Point.{point, nought}
 use Rattle.answer.specs.declared.Figures.{Figures}
 use Rattle.answer.specs.declared.Answer.{Answer}
 use Rattle.answer.specs.declared.Answer.the-variants.{Answered, Refused}
 use Rattle.answer.specs.Refusal.{refusalNumber}
 
--- "the refusal number or 0, the two parts, k, q (both 0 for EXP) and the column"; 02, E5: EXP's k stands "in the controller's k field"
+-- "the refusal number or 0, the two parts, k, q (both 0 for EXP) and the column"; 02, E5: EXP's k stands "in the controller's k field";
+-- 02, E7: "the controller's 48 bytes become 64 with the remainder last"
 abbrev pub numbers : ℤ → Figures → List ℤ
-numbers refusal f = refusal ∷ f .value .x ∷ f .value .y ∷ f .«binary_exponent» ∷ f .quadrant ∷ f .«error_bound» ∷ []
+numbers refusal f = refusal ∷ f .value .x ∷ f .value .y ∷ f .«binary_exponent» ∷ f .quadrant ∷ f .«error_bound»
+    ∷ f .remainder .x ∷ f .remainder .y ∷ []
 
--- "All figures, k, q and the column are zero"
+-- "All figures, k, q and the column are zero"; 02, E7: "zeros in a refused record"
 abbrev pub no-figures : Figures
-no-figures = record { value = record { x = pos 0; y = pos 0 }; «binary_exponent» = pos 0; quadrant = pos 0; «error_bound» = pos 0 }
+no-figures = record {
+  value = point nought;
+  «binary_exponent» = pos 0;
+  quadrant = pos 0;
+  «error_bound» = pos 0;
+  remainder = point nought;
+}
 
 unfoldable pub recordOf : Answer → List ℤ
 recordOf (Answered f) = numbers (pos 0) f
@@ -41,3 +50,9 @@ quadrant-in = number-at 4
 
 abbrev pub error-bound-in : List ℤ → ℤ
 error-bound-in = number-at 5
+
+abbrev pub remainder-re-in : List ℤ → ℤ
+remainder-re-in = number-at 6
+
+abbrev pub remainder-im-in : List ℤ → ℤ
+remainder-im-in = number-at 7

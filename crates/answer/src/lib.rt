@@ -1,4 +1,4 @@
-// What EXP and LOG answer: figures or a refusal, and the six numbers of 01's record of them.
+// What EXP and LOG answer: figures or a refusal, and the eight numbers of the record of them (01; 02, E7).
 ghost use mathlib.Core.Path.{_≡_};
 ghost use Rattle.answer.specs.Refusal.{refusalNumber};
 ghost use Rattle.answer.specs.Record.{numbers, recordOf};
@@ -18,11 +18,13 @@ pub enum Refusal {
 
 // EXP: value times 2^binary_exponent is the start times the exponential of the exponent, nearly; quadrant is 0. LOG: value is the logarithm;
 // the point is 2^binary_exponent * i^quadrant * exp(value), nearly. error_bound says how nearly: in units, for EXP times 2^binary_exponent.
+// remainder is what the steps left over: for EXP the last exponent, for LOG the last point less one.
 pub struct Figures {
     pub value: Point,
     pub binary_exponent: i64,
     pub quadrant: i64,
     pub error_bound: i64,
+    pub remainder: Point,
 }
 
 pub enum Answer {
@@ -44,7 +46,7 @@ impl Refusal {
 }
 
 // The record's numbers, in its order.
-fn numbers(refusal: i64, f: Figures) -> [i64; 6]
+fn numbers(refusal: i64, f: Figures) -> [i64; 8]
     ensures { λ r. ⌜ r ≡ numbers refusal f ⌝ }
 {
     let value = f.value;
@@ -53,11 +55,23 @@ fn numbers(refusal: i64, f: Figures) -> [i64; 6]
     let binary_exponent = f.binary_exponent;
     let quadrant = f.quadrant;
     let error_bound = f.error_bound;
-    [refusal, x, y, binary_exponent, quadrant, error_bound]
+    let remainder = f.remainder;
+    let left_x = remainder.x;
+    let left_y = remainder.y;
+    [
+        refusal,
+        x,
+        y,
+        binary_exponent,
+        quadrant,
+        error_bound,
+        left_x,
+        left_y,
+    ]
 }
 
 impl Answer {
-    pub fn record(self) -> [i64; 6]
+    pub fn record(self) -> [i64; 8]
         ensures { λ r. ⌜ r ≡ recordOf self ⌝ }
     {
         match self {
@@ -68,6 +82,7 @@ impl Answer {
                     binary_exponent: 0,
                     quadrant: 0,
                     error_bound: 0,
+                    remainder: Point::ZERO,
                 };
                 numbers(r.number(), none)
             }

@@ -1,4 +1,4 @@
--- A call: six numbers of eight bytes in front, and the answer's record handed over.
+-- A call: a record of eight numbers in front, and the answer's record handed over.
 use mathlib.Core.Path.{_≡_, refl, ap, _∙_}
 use mathlib.Core.List.{List, _++_}
 use Prim.Native.Nat.{ℕ, zero, suc, _^_, _≤_, _<_}
@@ -14,12 +14,12 @@ use Rattle.buffer.proofs.Words.{length-encode}
 use Rattle.buffer.proofs.Fitting.{Fitted, fitted-front}
 use Rattle.answer.specs.declared.Answer.{Answer}
 use Rattle.answer.specs.Record.{recordOf}
-use Rattle.controller.specs.Record.{handed, written, countOrRefusal}
+use Rattle.controller.specs.Record.{record-room, handed, written, countOrRefusal}
 
--- six numbers fill the first 48 bytes
-pub six-front : (b : List ℕ) (zs : List ℤ) {b′ : List ℕ} {end : ℕ} → length zs ≡ 6 → 48 ≤ length b → Fitted b 0 (encode zs) b′ end →
-    b′ ≡ encode zs ++ drop 48 b
-six-front b zs n h p =
+-- eight numbers fill the first 64 bytes
+pub record-front : (b : List ℕ) (zs : List ℤ) {b′ : List ℕ} {end : ℕ} → length zs ≡ 8 → record-room ≤ length b → Fitted b 0 (encode zs) b′ end →
+    b′ ≡ encode zs ++ drop record-room b
+record-front b zs n h p =
     let e = rw n at (length-encode zs) in
     rw e at (fitted-front (rw e h) p .bytes)
 

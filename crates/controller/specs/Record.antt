@@ -9,13 +9,18 @@ use Rattle.algebra.specs.Gauss.{𝔾}
 use Rattle.buffer.specs.Words.{encode}
 use Rattle.answer.specs.Record.{refusal-in}
 
--- "A buffer under 48 bytes is refused with 6 before all else"; else the record's first number
-abbrev pub handed : List ℕ → List ℤ → ℤ
-handed out numbers = cond (ltb (length out) 48) (pos 6) (refusal-in numbers)
+-- "Each such call writes 48 bytes", which 02, E7 made 64: eight numbers
+abbrev pub record-room : ℕ
+record-room = 64
 
--- "nothing written; bytes past the 48 keep their values"
+-- "A buffer under 48 bytes is refused with 6 before all else"; "a buffer under 64 is now the one refused with 6" (02, E7); else the record's
+-- first number
+abbrev pub handed : List ℕ → List ℤ → ℤ
+handed out numbers = cond (ltb (length out) record-room) (pos 6) (refusal-in numbers)
+
+-- "nothing written; bytes past the 48 keep their values", and so those past the 64
 abbrev pub written : List ℕ → List ℤ → List ℕ
-written out numbers = cond (ltb (length out) 48) out (encode numbers ++ drop 48 out)
+written out numbers = cond (ltb (length out) record-room) out (encode numbers ++ drop record-room out)
 
 -- how many bytes a merge wrote, or minus its refusal number
 abbrev pub countOrRefusal : ℕ → List ℕ → ℤ

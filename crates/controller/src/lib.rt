@@ -1,4 +1,4 @@
-// The calls for C: EXP and LOG on plain numbers, 48 bytes into a lent buffer; a line of a sheet; two sheets merged; an entry of the step table.
+// The calls for C: EXP and LOG on plain numbers, 64 bytes into a lent buffer; a line of a sheet; two sheets merged; an entry of the step table.
 // include/bkm.h is the contract in plain words.
 ghost use mathlib.Core.Path.{_≡_};
 ghost use mathlib.Core.List.{_++_};
@@ -13,12 +13,15 @@ ghost use Rattle.controller.specs.Record.{handed, written, partOf, count
 use answer::Answer;
 use point::Point;
 
+// The bytes of a record, eight numbers.
+const RECORD_ROOM: usize = 64;
+
 // An answer's record into the lent buffer, and its first number back.
 fn hand_over(answer: Answer, out: &mut [u8]) -> i64
     ensures handed { λ r. ⌜ r ≡ handed (now (out .entry)) (recordOf answer) ⌝ }
     ensures bytes { λ r. ⌜ now (out .exit) ≡ written (now (out .entry)) (recordOf answer) ⌝ }
 {
-    if out.len() < 48 {
+    if out.len() < RECORD_ROOM {
         return 6;
     }
     let numbers = answer.record();

@@ -59,8 +59,8 @@ equals f (x ∷ xs) (y ∷ ys) = by (λ p. ap₂ (λ z zs. z ∷ zs) (p .0) (p .
 -- ---- the table's
 unfoldable tested : (c : Case) → Tested (Holds c)
 tested (hands-out c fs) = equals equal _ _
-tested (exp-opens e ds) = both (equals equalᵍ _ _) (equals equalᵍ _ _)
-tested (log-opens p ds) = both (equals equalᵍ _ _) (equals equalᵍ _ _)
+tested (exp-opens e ds) = both (equals equalᵍ _ _) (both (equals equalᵍ _ _) (equals equalᵍ _ _))
+tested (log-opens p ds) = both (equals equalᵍ _ _) (both (equals equalᵍ _ _) (equals equalᵍ _ _))
 tested (has-reciprocal X Y c) = equalᵍ _ _
 
 unfoldable all-tested : (cs : List Case) → Tested (All cs)

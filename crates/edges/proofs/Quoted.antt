@@ -1,4 +1,4 @@
--- The first line of the run that 01 quotes, as the checker computes it: 1|EXP|40|0|0|281474976710656|0 answers 281474976710656|0|0|2128
+-- The first line of the run that 01 quotes, as the checker computes it: 1|EXP|40|0|0|281474976710656|0 answers 281474976710656|0|0|0|0|2128
 -- (02, E1: "the answer to kernel 1 in 01's run ends in 2128").
 use mathlib.Core.Path.{_≡_, refl}
 use mathlib.Core.List.{[], _∷_}
@@ -20,7 +20,8 @@ use Rattle.exponential.specs.Answer.{errorBound, answer, expAnswer}
 abbrev one : ℤ
 one = pos 281474976710656
 
-pub quoted-line : recordOf (expAnswer (pos 40) (pos 0) (pos 0) one (pos 0)) ≡ pos 0 ∷ one ∷ pos 0 ∷ pos 0 ∷ pos 0 ∷ pos 2128 ∷ []
+pub quoted-line : recordOf (expAnswer (pos 40) (pos 0) (pos 0) one (pos 0))
+    ≡ pos 0 ∷ one ∷ pos 0 ∷ pos 0 ∷ pos 0 ∷ pos 2128 ∷ pos 0 ∷ pos 0 ∷ []
 unfolding recordOf expAnswer answer inSteps inReach inRectangle reduction inParts inBox between errorBound ceiling larger abs run next select exp-select step
     quotient nearest stepTable stepLogs _+ᵍ_ negᵍ
 quoted-line = refl

@@ -5,10 +5,10 @@ use mathlib.Core.List.{List, [], _∷_, map}
 use Prim.Native.Nat.{ℕ, zero, suc, _+_, _^_}
 use lib.IntN.{ℤ, pos, negℤ}
 use lib.ListN.{length}
-use Rattle.algebra.specs.Gauss.{𝔾, gi}
+use Rattle.algebra.specs.Gauss.{𝔾, gi, _-ᵍ_}
 use Rattle.point.specs.Point.{gauss, nought, one}
 use Rattle.answer.specs.declared.Answer.{Answer}
-use Rattle.answer.specs.Record.{recordOf, refusal-in, re-in, im-in, binary-exponent-in, quadrant-in}
+use Rattle.answer.specs.Record.{recordOf, refusal-in, re-in, im-in, binary-exponent-in, quadrant-in, remainder-re-in, remainder-im-in}
 use Rattle.table_numbers.specs.Reciprocal.{reciprocal}
 use Rattle.table_numbers.specs.Table.{stepTable, reciprocalTable}
 use Rattle.iteration.specs.declared.State.{State}
@@ -30,9 +30,12 @@ answerTo (LOG n p) = logAnswer n (p .re) (p .im)
 abbrev pub handed : Call → List ℤ
 handed c = recordOf (answerTo c)
 
--- the two parts
+-- the two parts, and the two of the remainder
 abbrev pub value-of : Call → 𝔾
 value-of c = let r = handed c in gi (re-in r) (im-in r)
+
+abbrev pub remainder-of : Call → 𝔾
+remainder-of c = let r = handed c in gi (remainder-re-in r) (remainder-im-in r)
 
 -- ---- what a case says
 -- a number at a place of a record
@@ -136,10 +139,10 @@ cases =
     ∷ []
 
 -- ---- what it is for a case to hold
--- the values that a call hands out at N = n + 1, .., n + k
-abbrev pub values : (ℕ → Call) → ℕ → ℕ → List 𝔾
-values call n zero = []
-values call n (suc k) = value-of (call (suc n)) ∷ values call (suc n) k
+-- what is read off the calls at N = n + 1, .., n + k
+abbrev pub reads : (Call → 𝔾) → (ℕ → Call) → ℕ → ℕ → List 𝔾
+reads part call n zero = []
+reads part call n (suc k) = part (call (suc n)) ∷ reads part call (suc n) k
 
 -- the states after the steps n + 1, n + 2, .. by given digits
 abbrev pub states : ℕ → State → List 𝔾 → List State
@@ -147,15 +150,17 @@ states n x [] = []
 states n x (d ∷ ds) = let y = next stepTable (suc n) d x in y ∷ states (suc n) y ds
 
 -- "Digits belong to the definition; no call hands them back": they are the definition's, and the calls from N = 1 or 3 on hand out what the
--- steps by them make, one being the start
+-- steps by them make and what they leave over, one being the start
 abbrev pub Holds : Case → Type 0
 Holds (hands-out c fs) = map (λ f. f .0 (handed c)) fs ≡ map (λ f. f .1) fs
 Holds (exp-opens e ds) = let x = state unity e in
     (digits 48 stepTable Exp 0 (length ds) x ≡ ds)
-    × (values (λ n. EXP (pos n) e unity) 0 (length ds) ≡ map (λ y. gauss (y .point)) (states 0 x ds))
+    × ((reads value-of (λ n. EXP (pos n) e unity) 0 (length ds) ≡ map (λ y. gauss (y .point)) (states 0 x ds))
+    × (reads remainder-of (λ n. EXP (pos n) e unity) 0 (length ds) ≡ map (λ y. gauss (y .sum)) (states 0 x ds)))
 Holds (log-opens p ds) = let x = begun 48 reciprocalTable (turned p) in
     (digits 48 stepTable Log 2 (length ds) x ≡ ds)
-    × (values (λ n. LOG (pos n) p) 2 (length ds) ≡ map (λ y. gauss (y .sum)) (states 2 x ds))
+    × ((reads value-of (λ n. LOG (pos n) p) 2 (length ds) ≡ map (λ y. gauss (y .sum)) (states 2 x ds))
+    × (reads remainder-of (λ n. LOG (pos n) p) 2 (length ds) ≡ map (λ y. gauss (y .point) -ᵍ unity) (states 2 x ds)))
 Holds (has-reciprocal X Y c) = reciprocal X Y ≡ c
 
 abbrev pub All : List Case → Type 0

@@ -20,10 +20,13 @@ use Rattle.series.specs.Series.{D, Sᵍ, Dᵍ, Dᶻ}
 use Rattle.point.specs.Point.{gauss}
 use Rattle.point.specs.Limits.{inSteps, inParts}
 use Rattle.point.proofs.InLimits.{Counts, steps-say}
+use Rattle.answer.specs.declared.Refusal.{Refusal}
 use Rattle.answer.specs.declared.Refusal.the-variants.{Steps, Exponent, Part}
 use Rattle.answer.specs.declared.Answer.{Answer}
 use Rattle.answer.specs.declared.Answer.the-variants.{Answered, Refused}
+use Rattle.answer.specs.Remainder.{PartsBelow, RemainderBelow}
 use Rattle.answer.proofs.Tests.{unless-keeps}
+use Rattle.answer.proofs.Remainder.{part-below}
 use Rattle.table_numbers.specs.Promise.{StepTable, Constants}
 use Rattle.table_numbers.specs.Numbers48.{constants48}
 use Rattle.table_numbers.specs.Table.{stepTable}
@@ -65,14 +68,25 @@ module _ (F : ℕ) (t : StepTable) (c : Constants) (n : ℤ) (e s : 𝔾) where
   unfolding answer
   answered a = rw (a .steps, a .reach, a .start)
 
+  -- what holds of every refusal, and of the figures where none is met, holds of the answer
+  pub answer-keeps : (P : Answer → Type 0) → ((r : Refusal) → P (Refused r)) →
+      (Accepted F n e s → P (Answered (figures F t c (natAbs n) e s))) → P (answer F t c n e s)
+  unfolding answer
+  answer-keeps P refused given =
+      unless-keeps P (inSteps F 1 n) Steps _ (refused Steps)
+      (λ a. unless-keeps P (inReach F e) Exponent _ (refused Exponent)
+      (λ b. unless-keeps P (inParts F s) Part _ (refused Part)
+      (λ d. given (record { steps = a; reach = b; start = d }))))
+
   -- "Inside the old rectangle each answer remains the same", whatever the constants are: the steps of the exponent itself, on the start
-  -- itself, with its error bound, and k is 0
+  -- itself, with its error bound, and k is 0; what is left over is of the exponent itself
   pub same-inside : inRectangle F e ≡ true → figures F t c (natAbs n) e s
       ≡ record {
         value = run F t Exp 0 (natAbs n) (state s e) .point;
         «binary_exponent» = pos 0;
         quadrant = pos 0;
         «error_bound» = errorBound (natAbs n) s;
+        remainder = run F t Exp 0 (natAbs n) (state s e) .sum;
       }
   unfolding reduction
   same-inside h = ap (λ b. figuresFrom F t (natAbs n) (cond b (unreduced e s) (reduced c e s))) h
@@ -86,6 +100,17 @@ module _ (F : ℕ) (wide : 16 ≤ F) (narrow : F ≤ 48) (t : StepTable) (table 
   pub exponent-below : (e s : 𝔾) (n : ℕ) → n ≤ F - 8 → Below (gauss (ended F t n (reduction F c e s) .sum)) (two (F - n))
   exponent-below e s n h = let r = reduction F c e s in
       converges F (F - 8) wide room t table (state (gauss (r .start)) (gauss (r .exponent))) (given-rectangle F (omega arith) c promise e s) n h
+
+  -- 02, E7: "every remainder part is below 1/2^N in size"
+  pub left-below : {n : ℤ} {e s : 𝔾} → Accepted F n e s → PartsBelow F (natAbs n) (figures F t c (natAbs n) e s .remainder)
+  left-below {n} {e} {s} a = let b = exponent-below e s (natAbs n) most in
+      record { x = part-below F (natAbs n) fits (b .re); y = part-below F (natAbs n) fits (b .im) }
+    where
+      most : natAbs n ≤ F - 8
+      most = steps-say F 1 n (a .steps) .at-most
+
+      fits : natAbs n ≤ F
+      fits = omega (arith, most)
 
   -- ---- the error is within the bound
   module _ (n T : ℕ) (e s : 𝔾) (least : 1 ≤ n) (most : n ≤ F - 8) where
@@ -138,19 +163,21 @@ module _ (F n T : ℕ) (k : ℤ) (e s s₁ a : 𝔾) (close : CloseAt F n T k e 
 
 -- THE ANSWER IS CLOSE, for all inputs of the call
 pub exp-close : (n ex ey sx sy : ℤ) → Close n ex ey sx sy (expAnswer n ex ey sx sy)
-unfolding expAnswer answer
-exp-close n ex ey sx sy =
-    unless-keeps P (inSteps 48 1 n) Steps _ tt
-    (λ a. unless-keeps P (inReach 48 (gi ex ey)) Exponent _ tt
-    (λ b. unless-keeps P (inParts 48 (gi sx sy)) Part _ tt
-    (λ d. close-for 48 (omega arith) (omega arith) stepTable step-promise constants48 constants-promise
-    (record { steps = a; reach = b; start = d }))))
-  where
-    P : Answer → Type 0
-    P = Close n ex ey sx sy
-
--- so what equals it meets both clauses of the call
-pub settled : (n ex ey sx sy : ℤ) {r : Answer} → answer 48 stepTable constants48 n (gi ex ey) (gi sx sy) ≡ r →
-    (r ≡ expAnswer n ex ey sx sy) × Close n ex ey sx sy r
 unfolding expAnswer
-settled n ex ey sx sy p = (sym p, subst (λ a. Close n ex ey sx sy a) p (exp-close n ex ey sx sy))
+exp-close n ex ey sx sy = answer-keeps 48 stepTable constants48 n (gi ex ey) (gi sx sy) (Close n ex ey sx sy) (λ r. tt)
+    (close-for 48 (omega arith) (omega arith) stepTable step-promise constants48 constants-promise)
+
+-- WHAT IS LEFT OVER IS SMALL, likewise
+pub exp-remainder : (n ex ey sx sy : ℤ) → RemainderBelow 48 n (expAnswer n ex ey sx sy)
+unfolding expAnswer
+exp-remainder n ex ey sx sy = answer-keeps 48 stepTable constants48 n (gi ex ey) (gi sx sy) (RemainderBelow 48 n) (λ r. tt)
+    (left-below 48 (omega arith) (omega arith) stepTable step-promise constants48 constants-promise)
+
+-- so what equals it meets the three clauses of the call
+pub settled : (n ex ey sx sy : ℤ) {r : Answer} → answer 48 stepTable constants48 n (gi ex ey) (gi sx sy) ≡ r →
+    (r ≡ expAnswer n ex ey sx sy) × (Close n ex ey sx sy r × RemainderBelow 48 n r)
+unfolding expAnswer
+settled n ex ey sx sy p = (
+  sym p,
+  (subst (λ a. Close n ex ey sx sy a) p (exp-close n ex ey sx sy), subst (RemainderBelow 48 n) p (exp-remainder n ex ey sx sy)),
+)

@@ -79,7 +79,7 @@ module _ (q v n P δ m : ℤ) (p s Q S S₀ : 𝔾) (q≥2 : pos 2 ⩽ q) (v≥1
       (lin (q ∷ n ∷ δ ∷ P ∷ m ∷ []) (nonneg-mul (nonneg-mul δ≥0 P≥0) (size-sign (given .re)) & none) (search reify depth 20) tt)))
 
 module _ (F M : ℕ) (wide : 16 ≤ F) (room : M + 8 ≤ F) (t : StepTable) (promise : StepPromise F M t) (e : 𝔾) (rect : Rectangle F e)
-    (s : 𝔾) (m : ℤ) (given : Parts s m) where
+    (s : 𝔾) where
   -- the state after the steps 1 to n
   abbrev x : ℕ → State
   x n = run F t Exp 0 n (state s e)
@@ -142,16 +142,28 @@ module _ (F M : ℕ) (wide : 16 ≤ F) (room : M + 8 ≤ F) (t : StepTable) (pro
         size = lin (e .re ∷ e .im ∷ u ∷ []) (size-sq re & size-sq im & nonneg-sq u & none) (search reify depth 20) tt;
       }
 
-  pub exp-error-share : (T : ℕ) → 24 ≤ T → (n : ℕ) → 1 ≤ n → n ≤ M → n ≤ 40 →
-      Parts (ιᵍ (pos 70) *ᵍ (twoᵍ n *ᵍ (gauss (x n .point) *ᵍ Dᵍ (2 ^ F) T -ᵍ s *ᵍ Sᵍ (2 ^ F) T e)))
-      ((pos 520 *ℤ m +ℤ pos 70 *ℤ (rounding-share *ℤ pos n *ℤ two n)) *ℤ Dᶻ (2 ^ F) T)
-  exp-error-share T long n h g k = within-parts (total (two n) v (pos n) (Dᶻ (2 ^ F) T) (a .exact .δ) m (gauss (x n .point)) s (a .exact .Q)
-      (Sᵍ (2 ^ F) T (gauss (x n .sum))) (Sᵍ (2 ^ F) T e) q≥2 (two≥1 (F - 6 - n)) (pos-mono k) (nonneg-pos (D (2 ^ F) T)) (a .exact .δ≥1)
-      given (a .exact .Q-size) rounded (a .tabled)
-      (subst (λ U. Within (ιᵍ (pos 2 *ℤ U -ℤ pos 91 *ℤ v) *ᵍ (Sᵍ (2 ^ F) T (gauss (x n .sum)) -ᵍ Dᵍ (2 ^ F) T))
+  -- the drift of n steps, with 1/2^L for the measure of the tables' share
+  pub drifted : (L n T : ℕ) → n ≤ L → L ≤ M → L ≤ 40 → 24 ≤ T → Near F L T s (Sᵍ (2 ^ F) T e) (pos 4 *ℤ Dᶻ (2 ^ F) T) n (x n)
+  drifted L n T h g k long = drift (omega arith) (omega arith) k long s (Sᵍ (2 ^ F) T e) (pos 4 *ℤ Dᶻ (2 ^ F) T) P≤B (origin T long) t
+      (λ j lo hi. promise j lo (omega arith)) Exp
+      (λ j y. Boxed F (suc j) (gauss (y .sum))) (pos 9 *ℤ two (F - 2)) (⩽-refl (pos 9 *ℤ two (F - 2)))
+      (λ j y h. boxed-next F M wide room t promise j y (omega arith)) (λ j y h. short j (gauss (y .sum)) (omega arith))
+      0 n n (state s e) (omega arith) h (boxed-start F M wide room t promise e rect)
+      (near-start s e (pos 4 *ℤ Dᶻ (2 ^ F) T))
+    where
+      P≤B : Dᶻ (2 ^ F) T ⩽ pos 4 *ℤ Dᶻ (2 ^ F) T
+      P≤B = lin (Dᶻ (2 ^ F) T ∷ []) (nonneg-pos (D (2 ^ F) T) & none) (search reify depth 20) tt
+
+  -- what is left after n steps has an exponential near one
+  pub left-near-one : (n T : ℕ) → n ≤ M → 24 ≤ T →
+      Within (ιᵍ (pos 2 *ℤ (two n *ℤ (pos 64 *ℤ two (F - 6 - n))) -ℤ pos 91 *ℤ two (F - 6 - n)) *ᵍ
+      (Sᵍ (2 ^ F) T (gauss (x n .sum)) -ᵍ Dᵍ (2 ^ F) T))
+      (pos 2 *ℤ (pos 91 *ℤ two (F - 6 - n)) *ℤ Dᶻ (2 ^ F) T)
+  left-near-one n T g long = subst (λ U. Within (ιᵍ (pos 2 *ℤ U -ℤ pos 91 *ℤ v) *ᵍ (Sᵍ (2 ^ F) T (gauss (x n .sum)) -ᵍ Dᵍ (2 ^ F) T))
       (pos 2 *ℤ (pos 91 *ℤ v) *ℤ Dᶻ (2 ^ F) T)) (sym unit)
-      (laws-at F .near-one left (lin (v ∷ two F ∷ []) (two-mul-le 6 (F - 6 - n) F (omega arith) & nonneg-pos (2 ^ (F - 6 - n)) & none)
-      (search reify depth 20) tt) T (omega arith))))
+      (laws-at F .near-one (left-length n g (boxed F M wide room t promise (state s e) rect n g))
+      (lin (v ∷ two F ∷ []) (two-mul-le 6 (F - 6 - n) F (omega arith) & nonneg-pos (2 ^ (F - 6 - n)) & none)
+      (search reify depth 20) tt) T (omega arith))
     where
       v : ℤ
       v = two (F - 6 - n)
@@ -159,31 +171,25 @@ module _ (F M : ℕ) (wide : 16 ≤ F) (room : M + 8 ≤ F) (t : StepTable) (pro
       unit : two n *ℤ (pos 64 *ℤ v) ≡ two F
       unit = ap (λ b. two n *ℤ b) (two-part 6 F n (omega arith)) ∙ two-whole n F (omega arith)
 
-      q≥2 : pos 2 ⩽ two n
-      q≥2 = two-mono 1 n h
+  module _ (m : ℤ) (given : Parts s m) where
+    pub exp-error-share : (T : ℕ) → 24 ≤ T → (n : ℕ) → 1 ≤ n → n ≤ M → n ≤ 40 →
+        Parts (ιᵍ (pos 70) *ᵍ (twoᵍ n *ᵍ (gauss (x n .point) *ᵍ Dᵍ (2 ^ F) T -ᵍ s *ᵍ Sᵍ (2 ^ F) T e)))
+        ((pos 520 *ℤ m +ℤ pos 70 *ℤ (rounding-share *ℤ pos n *ℤ two n)) *ℤ Dᶻ (2 ^ F) T)
+    exp-error-share T long n h g k = within-parts (total (two n) (two (F - 6 - n)) (pos n) (Dᶻ (2 ^ F) T) (a .exact .δ) m
+        (gauss (x n .point)) s (a .exact .Q) (Sᵍ (2 ^ F) T (gauss (x n .sum))) (Sᵍ (2 ^ F) T e) (two-mono 1 n h) (two≥1 (F - 6 - n))
+        (pos-mono k) (nonneg-pos (D (2 ^ F) T)) (a .exact .δ≥1) given (a .exact .Q-size) rounded (a .tabled) (left-near-one n T g long))
+      where
+        a : Near F n T s (Sᵍ (2 ^ F) T e) (pos 4 *ℤ Dᶻ (2 ^ F) T) n (x n)
+        a = drifted n n T (omega arith) g k long
 
-      P≤B : Dᶻ (2 ^ F) T ⩽ pos 4 *ℤ Dᶻ (2 ^ F) T
-      P≤B = lin (Dᶻ (2 ^ F) T ∷ []) (nonneg-pos (D (2 ^ F) T) & none) (search reify depth 20) tt
+        rounded : Within (ιᵍ (a .exact .δ) *ᵍ gauss (x n .point) -ᵍ a .exact .Q *ᵍ s) (rounding-share *ℤ pos n *ℤ a .exact .δ)
+        rounded = subst (λ k. Within (ιᵍ (a .exact .δ) *ᵍ gauss (x n .point) -ᵍ a .exact .Q *ᵍ s) (k *ℤ pos n *ℤ a .exact .δ)) share-is
+            (a .exact .rounded)
 
-      left : Within (gauss (x n .sum)) (pos 91 *ℤ two (F - 6 - n))
-      left = left-length n g (boxed F M wide room t promise (state s e) rect n g)
-
-      a : Near F n T s (Sᵍ (2 ^ F) T e) (pos 4 *ℤ Dᶻ (2 ^ F) T) n (x n)
-      a = drift (omega arith) (omega arith) k long s (Sᵍ (2 ^ F) T e) (pos 4 *ℤ Dᶻ (2 ^ F) T) P≤B (origin T long) t
-          (λ j lo hi. promise j lo (omega arith)) Exp
-          (λ j y. Boxed F (suc j) (gauss (y .sum))) (pos 9 *ℤ two (F - 2)) (⩽-refl (pos 9 *ℤ two (F - 2)))
-          (λ j y h. boxed-next F M wide room t promise j y (omega arith)) (λ j y h. short j (gauss (y .sum)) (omega arith))
-          0 n n (state s e) (omega arith) (omega arith) (boxed-start F M wide room t promise e rect)
-          (near-start s e (pos 4 *ℤ Dᶻ (2 ^ F) T))
-
-      rounded : Within (ιᵍ (a .exact .δ) *ᵍ gauss (x n .point) -ᵍ a .exact .Q *ᵍ s) (rounding-share *ℤ pos n *ℤ a .exact .δ)
-      rounded = subst (λ k. Within (ιᵍ (a .exact .δ) *ᵍ gauss (x n .point) -ᵍ a .exact .Q *ᵍ s) (k *ℤ pos n *ℤ a .exact .δ)) share-is
-          (a .exact .rounded)
-
-  -- THE ERROR
-  pub exp-error : (T : ℕ) → 24 ≤ T → (n : ℕ) → 1 ≤ n → n ≤ M → n ≤ 40 →
-      Parts (twoᵍ n *ᵍ (gauss (x n .point) *ᵍ Dᵍ (2 ^ F) T -ᵍ s *ᵍ Sᵍ (2 ^ F) T e))
-      ((pos 8 *ℤ m +ℤ rounding-share *ℤ pos n *ℤ two n) *ℤ Dᶻ (2 ^ F) T)
-  exp-error T long n h g k = parts-cancel (pos 70) (record { le = tt }) (parts-weaken (exp-error-share T long n h g k)
-      (lin (m ∷ pos n ∷ two n ∷ Dᶻ (2 ^ F) T ∷ []) (nonneg-mul (size-sign (given .re)) (nonneg-pos (D (2 ^ F) T)) & none)
-      (search reify depth 20) tt))
+    -- THE ERROR
+    pub exp-error : (T : ℕ) → 24 ≤ T → (n : ℕ) → 1 ≤ n → n ≤ M → n ≤ 40 →
+        Parts (twoᵍ n *ᵍ (gauss (x n .point) *ᵍ Dᵍ (2 ^ F) T -ᵍ s *ᵍ Sᵍ (2 ^ F) T e))
+        ((pos 8 *ℤ m +ℤ rounding-share *ℤ pos n *ℤ two n) *ℤ Dᶻ (2 ^ F) T)
+    exp-error T long n h g k = parts-cancel (pos 70) (record { le = tt }) (parts-weaken (exp-error-share T long n h g k)
+        (lin (m ∷ pos n ∷ two n ∷ Dᶻ (2 ^ F) T ∷ []) (nonneg-mul (size-sign (given .re)) (nonneg-pos (D (2 ^ F) T)) & none)
+        (search reify depth 20) tt))

@@ -15,7 +15,7 @@ use Rattle.algebra.proofs.Reify.{ring!, reify, reifyᵍ}
 use Rattle.algebra.proofs.Order.{⩽-trans, nonneg-pos, nonneg-mul, nonneg-sq, sub-nonneg}
 use Rattle.algebra.proofs.Linear.{lin, _&_, _&≡_, none}
 use Rattle.algebra.proofs.Power.{two≥1, two-mul-le}
-use Rattle.algebra.proofs.Within.{N-nonneg, within-neg, within-ratio}
+use Rattle.algebra.proofs.Within.{N-nonneg, within-neg, within-weaken, within-ratio}
 use Rattle.algebra.proofs.Parts.{parts-add, parts-scale, parts-cancel, parts-weaken, parts-within, within-parts, size-sign}
 use Rattle.series.specs.Series.{D, Sᵍ, Dᶻ}
 use Rattle.point.specs.Point.{gauss}
@@ -74,23 +74,29 @@ module _ (F M : ℕ) (wide : 16 ≤ F) (narrow : F ≤ 48) (room : M + 8 ≤ F) 
     abbrev off : 𝔾
     off = twoᵍ (down k) *ᵍ s₇₀ *ᵍ Sᵍ (2 ^ F) T e -ᵍ s₇₀ *ᵍ f *ᵍ twoᵍ (up k) *ᵍ Sᵍ (2 ^ F) T r
 
+    pub reduction-off : Within (twoᵍ F *ᵍ off) (pos 3564 *ℤ m *ℤ two (up k) *ℤ δ)
+    reduction-off = within-weaken (outward F (omega arith) narrow c promise e far T long s₇₀ (pos 99 *ℤ m) long-start long-turned)
+        (lin (m ∷ two (up k) ∷ δ ∷ []) none (search reify depth 20) tt)
+
     reduction-share : (n : ℕ) → n ≤ M → Within (twoᵍ n *ᵍ off) (pos 14 *ℤ m *ℤ two (up k) *ℤ δ)
     reduction-share n h = within-ratio off (two F) (two n) (two≥1 F) (nonneg-pos (2 ^ n))
         (lin (two F ∷ two n ∷ m ∷ two (up k) ∷ δ ∷ [])
         (nonneg-mul shares≥0 (sub-nonneg (two-mul-le 8 n F (omega arith))) & nonneg-mul shares≥0 (nonneg-pos (2 ^ n)) & none)
         (search reify depth 20 fits 4000) tt)
-        (outward F (omega arith) narrow c promise e far T long s₇₀ (pos 99 *ℤ m) long-start long-turned)
+        reduction-off
+
+    -- what a·z is off by, Z times: 2^up times what it is for the turned start and the reduced exponent, and what the reduction is
+    pub with-reduction : (Z : ℤ) (a z : 𝔾) {b d l : ℤ} → Parts (ιᵍ (pos 70) *ᵍ (ιᵍ Z *ᵍ (a *ᵍ z -ᵍ s *ᵍ f *ᵍ Sᵍ (2 ^ F) T r))) b →
+        Within (ιᵍ Z *ᵍ off) d → two (up k) *ℤ b +ℤ d ⩽ pos 70 *ℤ l →
+        Parts (ιᵍ Z *ᵍ (twoᵍ (up k) *ᵍ a *ᵍ z -ᵍ twoᵍ (down k) *ᵍ s *ᵍ Sᵍ (2 ^ F) T e)) l
+    with-reduction Z a z {l} steps reduction few = parts-cancel (pos 70) (record { le = tt }) (subst (λ y. Parts y (pos 70 *ℤ l))
+        (ring! 𝔾R (twoᵍ (up k) ∷ twoᵍ (down k) ∷ ιᵍ Z ∷ z ∷ s ∷ f ∷ a ∷ Sᵍ (2 ^ F) T r ∷ Sᵍ (2 ^ F) T e ∷ [])
+        (search reifyᵍ depth 20 fits 4000) tt)
+        (parts-weaken (parts-add (parts-scale (two (up k)) (nonneg-pos (2 ^ up k)) steps) (within-parts (within-neg reduction))) few))
 
     -- THE ERROR
     pub far-error : (n : ℕ) → 1 ≤ n → n ≤ M → n ≤ 40 → Parts (twoᵍ n *ᵍ miss F T k e s (A n)) (allowed F n T k m)
-    far-error n h g l = parts-cancel (pos 70) (record { le = tt }) (subst (λ z. Parts z (pos 70 *ℤ allowed F n T k m)) point
-        (parts-weaken
-        (parts-add (parts-scale (two (up k)) (nonneg-pos (2 ^ up k))
-        (exp-error-share F M wide room t table r (left-rectangle F (omega arith) c promise e) (s *ᵍ f) m given T (omega arith) n h g l))
-        (within-parts (within-neg (reduction-share n g))))
-        (lin (m ∷ pos n ∷ two n ∷ two (up k) ∷ δ ∷ []) (shares≥0 & none) (search reify depth 20 fits 4000) tt)))
-      where
-        point : twoᵍ (up k) *ᵍ (ιᵍ (pos 70) *ᵍ (twoᵍ n *ᵍ (A n *ᵍ ιᵍ δ -ᵍ s *ᵍ f *ᵍ Sᵍ (2 ^ F) T r))) -ᵍ twoᵍ n *ᵍ off
-            ≡ ιᵍ (pos 70) *ᵍ (twoᵍ n *ᵍ miss F T k e s (A n))
-        point = ring! 𝔾R (twoᵍ (up k) ∷ twoᵍ (down k) ∷ twoᵍ n ∷ ιᵍ δ ∷ s ∷ f ∷ A n ∷ Sᵍ (2 ^ F) T r ∷ Sᵍ (2 ^ F) T e ∷ [])
-            (search reifyᵍ depth 20 fits 4000) tt
+    far-error n h g l = with-reduction (two n) (A n) (ιᵍ δ)
+        (exp-error-share F M wide room t table r (left-rectangle F (omega arith) c promise e) (s *ᵍ f) m given T (omega arith) n h g l)
+        (reduction-share n g)
+        (lin (m ∷ pos n ∷ two n ∷ two (up k) ∷ δ ∷ []) (shares≥0 & none) (search reify depth 20 fits 4000) tt)

@@ -13,6 +13,7 @@ use Rattle.algebra.proofs.Order.{⩽-antisym}
 use Rattle.algebra.proofs.Linear.{lin, _&_, _&<_, none}
 use Rattle.algebra.proofs.Inequality.{le-cancel, below-next}
 use Rattle.algebra.proofs.Power.{two≥1}
+use Rattle.point.specs.declared.Point.{Point}
 use Rattle.point.specs.Point.{gauss, point, nought}
 use Rattle.point.specs.Step.{step}
 use Rattle.point.proofs.Rounding.{step-nought}
@@ -31,13 +32,14 @@ use Rattle.exponential.proofs.Bound.{bound-enough, bound-least}
 use Rattle.exponential.proofs.Given.{by-rectangle}
 use Rattle.exponential.proofs.Close.{Accepted, answered}
 
--- what is answered: zero times 2^k, and the rounding's share alone
-abbrev pub zero-figures : ℕ → ℤ → Figures
-zero-figures n k = record {
+-- what is answered: zero times 2^k, the rounding's share alone, and what is left of the exponent
+abbrev pub zero-figures : ℕ → ℤ → Point → Figures
+zero-figures n k left = record {
   value = point nought;
   «binary_exponent» = k;
   quadrant = pos 0;
   «error_bound» = rounding-share *ℤ pos n;
+  remainder = left;
 }
 
 zero-bound : (n : ℕ) → errorBound n nought ≡ rounding-share *ℤ pos n
@@ -64,14 +66,24 @@ module _ (F : ℕ) (t : StepTable) (c : Constants) where
   zero-given : (e : 𝔾) → gauss (reduction F c e nought .start) ≡ nought
   zero-given e = by-rectangle (λ _ r. gauss (r .start) ≡ nought) F c e nought (λ _. refl) (λ _. zero-turned (factor (eighths c e)))
 
-  pub zero-start : (n : ℕ) (e : 𝔾) → figures F t c n e nought ≡ zero-figures n (reduction F c e nought .«binary_exponent»)
+  -- of an exponent
+  abbrev pub zero-from : ℕ → 𝔾 → Figures
+  zero-from n e = let r = reduction F c e nought in zero-figures n (r .«binary_exponent») (ended F t n r .sum)
+
+  pub zero-start : (n : ℕ) (e : 𝔾) → figures F t c n e nought ≡ zero-from n e
   zero-start n e = let r = reduction F c e nought in
-      ap₂ (λ z b. record { value = point z; «binary_exponent» = r .«binary_exponent»; quadrant = pos 0; «error_bound» = b })
+      ap₂ (λ z b. record {
+        value = point z;
+        «binary_exponent» = r .«binary_exponent»;
+        quadrant = pos 0;
+        «error_bound» = b;
+        remainder = ended F t n r .sum;
+      })
       (zero-run n r (zero-given e)) (ap (λ s. errorBound n s) (zero-given e) ∙ zero-bound n)
 
 -- THE ANSWER to a zero start
 pub zero-answer : (n ex ey : ℤ) → Accepted 48 n (gi ex ey) nought →
-    expAnswer n ex ey (pos 0) (pos 0) ≡ Answered (zero-figures (natAbs n) (reduction 48 constants48 (gi ex ey) nought .«binary_exponent»))
+    expAnswer n ex ey (pos 0) (pos 0) ≡ Answered (zero-from 48 stepTable constants48 (natAbs n) (gi ex ey))
 unfolding expAnswer
 zero-answer n ex ey a = answered 48 stepTable constants48 n (gi ex ey) nought a
     ∙ ap Answered (zero-start 48 stepTable constants48 (natAbs n) (gi ex ey))

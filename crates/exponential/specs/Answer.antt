@@ -41,13 +41,14 @@ module _ (F : ℕ) (t : StepTable) where
   abbrev pub ended : ℕ → Reduced → State
   ended n r = run F t Exp 0 n (state (gauss (r .start)) (gauss (r .exponent)))
 
-  -- "The answer is the last start"; "The answer is times 2^k", and q is 0
+  -- "The answer is the last start"; "The answer is times 2^k", and q is 0; 02, E7: the remainder is "the exponent after the last step"
   abbrev pub figuresFrom : ℕ → Reduced → Figures
   figuresFrom n r = record {
     value = ended n r .point;
     «binary_exponent» = r .«binary_exponent»;
     quadrant = pos 0;
     «error_bound» = errorBound n (gauss (r .start));
+    remainder = ended n r .sum;
   }
 
 module _ (F : ℕ) (t : StepTable) (c : Constants) where

@@ -4,6 +4,7 @@ ghost use Prim.Native.Nat.{_≤_};
 ghost use Rattle.algebra.specs.Size.{Size, Parts, abs, larger};
 ghost use Rattle.algebra.specs.Gauss.{two};
 ghost use Rattle.point.specs.Point.{gauss};
+ghost use Rattle.answer.specs.Remainder.{RemainderBelow};
 ghost use Rattle.exponential.specs.Answer.{errorBound, expAnswer, Close};
 use answer::Answer;
 use answer::Figures;
@@ -46,10 +47,12 @@ fn error_bound(n: usize, s: Point) -> i64
     share - down
 }
 
-// The start times the exponential of the exponent, by n steps: value times 2^binary_exponent.
+// The start times the exponential of the exponent, by n steps: value times 2^binary_exponent. What the steps leave of the exponent that they
+// are given is the remainder.
 pub fn exp(n: i64, exponent: Point, start: Point) -> Answer
     ensures answer { λ r. ⌜ r ≡ expAnswer n (exponent .x) (exponent .y) (start .x) (start .y) ⌝ }
     ensures close { λ r. ⌜ Close n (exponent .x) (exponent .y) (start .x) (start .y) r ⌝ }
+    ensures remainder { λ r. ⌜ RemainderBelow 48 n r ⌝ }
 {
     if !point::is_between(1, 40, n) {
         return Answer::Refused(Refusal::Steps);
@@ -66,9 +69,12 @@ pub fn exp(n: i64, exponent: Point, start: Point) -> Answer
     let e = given.exponent;
     let end = iteration::run(Mode::Exp, 0, steps, State { point: s, sum: e });
     let last = end.point;
+    let left = end.sum;
     // part by part, so that nothing is copied in between
     let x = last.x;
     let y = last.y;
+    let left_x = left.x;
+    let left_y = left.y;
     let binary_exponent = given.binary_exponent;
     let error_bound = error_bound(steps, s);
     Answer::Answered(Figures {
@@ -76,5 +82,9 @@ pub fn exp(n: i64, exponent: Point, start: Point) -> Answer
         binary_exponent,
         quadrant: 0,
         error_bound,
+        remainder: Point {
+            x: left_x,
+            y: left_y,
+        },
     })
 }

@@ -28,10 +28,13 @@ use Rattle.point.specs.Limits.{inSteps, inBox, inParts}
 use Rattle.point.specs.Point.{gauss}
 use Rattle.point.proofs.InLimits.{Counts, steps-say, parts-say}
 use Rattle.answer.specs.declared.Figures.{Figures}
+use Rattle.answer.specs.declared.Refusal.{Refusal}
 use Rattle.answer.specs.declared.Refusal.the-variants.{Steps, Part, Zero}
 use Rattle.answer.specs.declared.Answer.{Answer}
 use Rattle.answer.specs.declared.Answer.the-variants.{Answered, Refused}
+use Rattle.answer.specs.Remainder.{PartsBelow, RemainderBelow}
 use Rattle.answer.proofs.Tests.{unless-keeps}
+use Rattle.answer.proofs.Remainder.{part-below}
 use Rattle.table_numbers.specs.Promise.{StepTable, ReciprocalTable}
 use Rattle.table_numbers.specs.Table.{stepTable, reciprocalTable}
 use Rattle.table_numbers.proofs.Promises.{StepPromise, ReciprocalPromise}
@@ -76,6 +79,16 @@ module _ (F : ℕ) (steps : StepTable) (logs : ReciprocalTable) (n : ℤ) (p : �
   pub answered : Accepted F n p → answer F steps logs n p ≡ Answered (figures F steps logs (natAbs n) p)
   unfolding answer
   answered a = rw (a .steps, a .parts, a .nonzero)
+
+  -- what holds of every refusal, and of the figures where none is met, holds of the answer
+  pub answer-keeps : (P : Answer → Type 0) → ((r : Refusal) → P (Refused r)) →
+      (Accepted F n p → P (Answered (figures F steps logs (natAbs n) p))) → P (answer F steps logs n p)
+  unfolding answer
+  answer-keeps P refused given =
+      unless-keeps P (inSteps F 3 n) Steps _ (refused Steps)
+      (λ a. unless-keeps P (inParts F p) Part _ (refused Part)
+      (λ b. unless-keeps P (not (isZero p)) Zero _ (refused Zero)
+      (λ c. given (record { steps = a; parts = b; nonzero = not-true _ c }))))
 
 -- ---- of an accepted point
 module _ (F : ℕ) (wide : 11 ≤ F) {n : ℤ} {p : 𝔾} (a : Accepted F n p) where
@@ -128,17 +141,16 @@ module _ (F : ℕ) (wide : 11 ≤ F) {n : ℤ} {p : 𝔾} (a : Accepted F n p) w
         before : suc (j - 1) ≡ j
         before = omega arith
 
-    -- the point less one, which is left over, is below 1/2^N in size in each part
-    abbrev pub remainder : 𝔾
-    remainder = gauss (ended F steps logs (natAbs n) (turned p) .point) -ᵍ twoᵍ F
-
-    pub remainder-below : (abs (remainder .re) ⋖ two (F - natAbs n)) × (abs (remainder .im) ⋖ two (F - natAbs n))
-    remainder-below = let u = converges F steps (begun F logs w) start N (count .at-least) fits in (below (u .re), below (u .im))
+    -- 02, E7: "every remainder part is below 1/2^N in size": 3/2 of 1/2^(N + 1) is
+    pub left-below : PartsBelow F (natAbs n) (figures F steps logs (natAbs n) p .remainder)
+    unfolding ιᵍ
+    left-below = let u = converges F steps (begun F logs w) start N (count .at-least) fits in
+        record { x = below (u .re); y = below (u .im) }
       where
-        below : {x : ℤ} → Size x (pos 3 *ℤ half F (suc N)) → abs x ⋖ two (F - N)
-        below {x} h = lin< (abs x ∷ two (F - N) ∷ half F (suc N) ∷ []) (size-abs h & two-mul-le 2 (F - suc (suc N)) (F - N)
-            (omega (arith, fits)) & two≥1 (F - suc (suc N)) & none)
-            (search reify depth 20) tt
+        below : {x : ℤ} → Size x (pos 3 *ℤ half F (suc N)) → abs x *ℤ two N ⋖ two F
+        below {x} h = part-below F N (omega (arith, fits)) {a = abs x} (lin< (abs x ∷ two (F - N) ∷ half F (suc N) ∷ [])
+            (size-abs h & two-mul-le 2 (F - suc (suc N)) (F - N) (omega (arith, fits)) & two≥1 (F - suc (suc N)) & none)
+            (search reify depth 20) tt)
 
     -- the size of the seat's logarithm
     pub begun-short : ReciprocalPromise F logs → Short F (most F) 2 (gauss (begun F logs (turned p) .sum))
@@ -217,18 +229,21 @@ close-whole {F} {N} {T} p f many M≥1 close = go (pos F +ℤ f .«binary_expone
 
 -- ---- at the width 48: THE ANSWER IS CLOSE, for all inputs
 pub log-close : (n x y : ℤ) → Close n x y (logAnswer n x y)
-unfolding logAnswer answer
-log-close n x y =
-    unless-keeps P (inSteps 48 3 n) Steps _ tt
-    (λ a. unless-keeps P (inParts 48 (gi x y)) Part _ tt
-    (λ b. unless-keeps P (not (isZero (gi x y))) Zero _ tt
-    (λ c. close-at 48 (lit≤ tt) (record { steps = a; parts = b; nonzero = not-true _ c }) stepTable reciprocalTable
-    (lit≤ tt) step-promise reciprocal-promise)))
-  where
-    P : Answer → Type 0
-    P = Close n x y
-
--- so what equals it meets both clauses of the call
-pub settled : (n x y : ℤ) {r : Answer} → answer 48 stepTable reciprocalTable n (gi x y) ≡ r → (r ≡ logAnswer n x y) × Close n x y r
 unfolding logAnswer
-settled n x y p = (sym p, subst (λ a. Close n x y a) p (log-close n x y))
+log-close n x y = answer-keeps 48 stepTable reciprocalTable n (gi x y) (Close n x y) (λ r. tt)
+    (λ a. close-at 48 (lit≤ tt) a stepTable reciprocalTable (lit≤ tt) step-promise reciprocal-promise)
+
+-- WHAT IS LEFT OVER IS SMALL, likewise
+pub log-remainder : (n x y : ℤ) → RemainderBelow 48 n (logAnswer n x y)
+unfolding logAnswer
+log-remainder n x y = answer-keeps 48 stepTable reciprocalTable n (gi x y) (RemainderBelow 48 n) (λ r. tt)
+    (λ a. left-below 48 (lit≤ tt) a stepTable reciprocalTable)
+
+-- so what equals it meets the three clauses of the call
+pub settled : (n x y : ℤ) {r : Answer} → answer 48 stepTable reciprocalTable n (gi x y) ≡ r →
+    (r ≡ logAnswer n x y) × (Close n x y r × RemainderBelow 48 n r)
+unfolding logAnswer
+settled n x y p = (
+  sym p,
+  (subst (λ a. Close n x y a) p (log-close n x y), subst (RemainderBelow 48 n) p (log-remainder n x y)),
+)

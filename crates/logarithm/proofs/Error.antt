@@ -42,8 +42,9 @@ S-zero U zero h = absurd (not-suc-le-zero h)
 S-zero U (suc T) h = sym (exp-zero U T)
 
 -- ---- the reciprocal c/64, with the logarithm s, is a factor like those of the steps: after it the state is near (iteration, Drift) as
--- after step 2 of the iteration from the scaled point p and nought, and the steps 3 to n keep it so
-module _ {F n T : ℕ} (room : n + 8 ≤ F) (many : 3 ≤ n) (few : n ≤ 40) (long : 24 ≤ T) (p v c s : 𝔾) (entry : ReciprocalEntry F c s)
+-- after step 2 of the iteration from the scaled point p and nought, and the steps 3 to n keep it so, with 1/2^L for the measure of the
+-- tables' share
+module _ {F L T : ℕ} (room : L + 8 ≤ F) (many : 3 ≤ L) (few : L ≤ 40) (long : 24 ≤ T) (p v c s : 𝔾) (entry : ReciprocalEntry F c s)
     (small : N c ⩽ pos 15200)
     (start : Parts (c *ᵍ p -ᵍ ιᵍ (pos 64) *ᵍ v) (pos 64)) where
   abbrev P : ℤ
@@ -72,11 +73,11 @@ module _ {F n T : ℕ} (room : n + 8 ≤ F) (many : 3 ≤ n) (few : n ≤ 40) (l
   short : Short F (most F) 2 s
   short = log-short F (omega arith) entry
 
-  after-reciprocal : Near F n T p E P 2 (state v (negᵍ s))
+  after-reciprocal : Near F L T p E P 2 (state v (negᵍ s))
   unfolding exact
   after-reciprocal = record {
     exact = exact;
-    tabled = within-weaken (subst₂ (λ Q z. Within (ιᵍ (pos 128 *ℤ two n) *ᵍ (Q *ᵍ Sᵍ (2 ^ F) T z -ᵍ ιᵍ (pos 64) *ᵍ E))
+    tabled = within-weaken (subst₂ (λ Q z. Within (ιᵍ (pos 128 *ℤ two L) *ᵍ (Q *ᵍ Sᵍ (2 ^ F) T z -ᵍ ιᵍ (pos 64) *ᵍ E))
         (pos 1 *ℤ (pos 64 *ℤ P))) (g-mul-one c) minus
         (one-factor (omega arith) room few long p E P (⩽-refl P) origin {n = 0} {δ = pos 1} (ιᵍ (pos 1)) (ιᵍ (pos 0)) 64 c s (omega arith)
         (record { le = tt }) one
@@ -95,15 +96,17 @@ module _ {F n T : ℕ} (room : n + 8 ≤ F) (many : 3 ≤ n) (few : n ≤ 40) (l
       one : Within (ιᵍ (pos 4) *ᵍ ιᵍ (pos 1)) (pos 11 *ℤ pos 1)
       one = within-weaken (within-scale (pos 4) (nonneg-pos 4) (within-ι (pos 1) (nonneg-pos 1))) (record { le = tt })
 
-      nothing : Within (ιᵍ (pos 128 *ℤ two n) *ᵍ (ιᵍ (pos 1) *ᵍ E -ᵍ ιᵍ (pos 1) *ᵍ E)) (pos 0 *ℤ (pos 1 *ℤ P))
-      nothing = subst₂ Within (ring! 𝔾R (twoᵍ n ∷ E ∷ []) (search reifyᵍ depth 20) tt) (ring! ℤR (P ∷ []) (search reify depth 20) tt)
+      nothing : Within (ιᵍ (pos 128 *ℤ two L) *ᵍ (ιᵍ (pos 1) *ᵍ E -ᵍ ιᵍ (pos 1) *ᵍ E)) (pos 0 *ℤ (pos 1 *ℤ P))
+      nothing = subst₂ Within (ring! 𝔾R (twoᵍ L ∷ E ∷ []) (search reifyᵍ depth 20) tt) (ring! ℤR (P ∷ []) (search reify depth 20) tt)
           (within-ι (pos 0) (nonneg-pos 0))
 
-  followed : (t : StepTable) → StepPromise F n t → Near F n T p (Dᵍ (2 ^ F) T) (Dᶻ (2 ^ F) T) n (run F t Log 2 (n - 2) (state v (negᵍ s)))
-  followed t promise = subst (λ e. Near F n T p e P n (run F t Log 2 (n - 2) (state v (negᵍ s)))) (sym (S-zero (2 ^ F) T long))
+  followed : (n : ℕ) → 3 ≤ n → n ≤ L → (t : StepTable) → StepPromise F L t →
+      Near F L T p (Dᵍ (2 ^ F) T) (Dᶻ (2 ^ F) T) n (run F t Log 2 (n - 2) (state v (negᵍ s)))
+  followed n least reach t promise = subst (λ e. Near F L T p e P n (run F t Log 2 (n - 2) (state v (negᵍ s))))
+      (sym (S-zero (2 ^ F) T long))
       (drift (omega arith) room few long p E P (⩽-refl P) origin t promise Log (λ m x. Short F (most F) m (gauss (x .sum))) (most F) far
-      (sum-next F n room t promise)
-      (λ m x h k. k) 2 (n - 2) n (state v (negᵍ s)) (omega arith) (omega arith) (within-neg short) after-reciprocal)
+      (sum-next F L room t promise)
+      (λ m x h k. k) 2 (n - 2) n (state v (negᵍ s)) (omega arith) reach (within-neg short) after-reciprocal)
     where
       far : most F ⩽ pos 9 *ℤ two (F - 2)
       far = lin (two (F - 2) ∷ two (F - 4) ∷ []) (two-mul-le 2 (F - 4) (F - 2) (omega arith) & nonneg-pos (2 ^ (F - 4)) & none)
@@ -119,10 +122,10 @@ module _ (F : ℕ) (narrow : F ≤ 48) (M : ℕ) (steps : StepTable) (logs : Rec
   abbrev t : ℤ
   t = half F (suc n)
 
-  near : Near F n T p (Dᵍ (2 ^ F) T) (Dᶻ (2 ^ F) T) n (ended F steps logs n w)
-  near = followed fits few (omega arith) enough p (reduced F p) (reciprocalOf F p) (logs (cellX F p) (cellY F p))
+  pub drifted : (L : ℕ) → n ≤ L → L ≤ M → L + 8 ≤ F → Near F L T (scaled F w) (Dᵍ (2 ^ F) T) (Dᶻ (2 ^ F) T) n (ended F steps logs n w)
+  drifted L h g room = followed room (omega arith) (omega arith) enough p (reduced F p) (reciprocalOf F p) (logs (cellX F p) (cellY F p))
       (begun-entry F (omega arith) logs w cone reciprocals) (reciprocal-size F (omega arith) p (scaled-ranges F (omega arith) w cone))
-      (reduced-error F p) steps
+      (reduced-error F p) n few h steps
       (λ m lo hi. entries m lo (omega arith))
 
   U-is : two F ≡ pos 4 *ℤ t *ℤ two n
@@ -131,10 +134,13 @@ module _ (F : ℕ) (narrow : F ≤ 48) (M : ℕ) (steps : StepTable) (logs : Rec
   pub turned-error : Within (twoᵍ n *ᵍ (w *ᵍ Dᵍ (2 ^ F) T -ᵍ ιᵍ (two (bit-length w)) *ᵍ Sᵍ (2 ^ F) T (gauss (ended F steps logs n w .sum))))
       (pos 3 *ℤ w .re *ℤ Dᶻ (2 ^ F) T)
   turned-error = together (two F) (two n) t (pos n) (pos (up F (bit-length w))) (pos (down F (bit-length w))) (two (bit-length w))
-      (near .exact .δ) (Dᶻ (2 ^ F) T) (w .re)
-      w p (gauss (ended F steps logs n w .point)) (near .exact .Q) (Sᵍ (2 ^ F) T (gauss (ended F steps logs n w .sum)))
+      (a .exact .δ) (Dᶻ (2 ^ F) T) (w .re)
+      w p (gauss (ended F steps logs n w .point)) (a .exact .Q) (Sᵍ (2 ^ F) T (gauss (ended F steps logs n w .sum)))
       U-is (ap pos (up-down F (bit-length w))) (half-large F (suc n) 6 (omega arith)) (two-mono 3 n few)
-      (nonneg-pos n) (pos-mono (omega arith)) (pos-mono (omega (arith, below-two n))) (two≥1 (bit-length w - F)) (near .exact .δ≥1)
+      (nonneg-pos n) (pos-mono (omega arith)) (pos-mono (omega (arith, below-two n))) (two≥1 (bit-length w - F)) (a .exact .δ≥1)
       (nonneg-pos (D (2 ^ F) T)) (nonneg (cone-pos cone)) (cone-parts cone) (scaled-error F w)
       (converges F steps (begun F logs w) (begun-converging F (omega arith) logs w cone) n few fits)
-      (exact-length (near .exact)) (near .exact .rounded) (near .tabled)
+      (exact-length (a .exact)) (a .exact .rounded) (a .tabled)
+    where
+      a : Near F n T p (Dᵍ (2 ^ F) T) (Dᶻ (2 ^ F) T) n (ended F steps logs n w)
+      a = drifted n (omega arith) reach fits

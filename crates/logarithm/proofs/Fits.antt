@@ -36,7 +36,7 @@ use Rattle.logarithm.specs.Reduction.{turned, quadrant, turns-back, quar
 use Rattle.logarithm.specs.Answer.{begun, errorBound}
 use Rattle.logarithm.specs.Code.{turnOf, ScalePre, ReducePre, BoundPre, boundAt, Accepted}
 use Rattle.logarithm.proofs.Quadrant.{turn-is, cone-pos, cone-parts}
-use Rattle.logarithm.proofs.Scale.{length-law, length-le, scaled-exact, Scaled, scaled-ranges}
+use Rattle.logarithm.proofs.Scale.{length-law, length-le, scaled-exact, Scaled, scaled-ranges, scaled-parts}
 use Rattle.logarithm.proofs.Cell.{reciprocal-parts, in-table}
 use Rattle.logarithm.proofs.Convergence.{converging-run, point-size, most, log-short, sum-size, begun-converging, begun-entry}
 use Rattle.logarithm.proofs.Close.{cone, M-is, begun-short}
@@ -185,6 +185,27 @@ bound-fits {F} narrow {n} p = ceiling-fits {c = negsuc 2} {a = pos 3} {b = two 5
     (record { lo = record { le = tt }; hi = record { le = tt } })
     (size-weaken (p .size) (two-mono (F + 10) 58 (omega arith))) tt tt
 
+-- ---- the point less one
+pub record LessOne (p : Point) : Type 0 where
+  pub x : SFits w64 (p .x)
+  pub y : SFits w64 (p .y)
+  pub less-x : SFits w64 (p .x -ℤ two 48)
+  pub less-y : SFits w64 (p .y -ℤ pos 0)
+
+pub less-one-fits : {p : Point} → Parts (gauss p) (two 61) → LessOne p
+less-one-fits h = record {
+  x = sfits-size (h .re) tt;
+  y = sfits-size (h .im) tt;
+  less-x = sfits-size (size-add (h .re) (size-neg one)) tt;
+  less-y = sfits-size (size-add (h .im) (size-neg none-of-it)) tt;
+}
+  where
+    one : Size (two 48) (two 48)
+    one = record { lo = record { le = tt }; hi = record { le = tt } }
+
+    none-of-it : Size (pos 0) (pos 0)
+    none-of-it = record { lo = record { le = tt }; hi = record { le = tt } }
+
 -- ---- what the reduction hands on
 module _ {F : ℕ} (wide : 10 ≤ F) {w : Point} {b : ℕ} (s : ScalePre F w b) where
   abbrev z : 𝔾
@@ -198,16 +219,7 @@ module _ {F : ℕ} (wide : 10 ≤ F) {w : Point} {b : ℕ} (s : ScalePre F w b) 
 
   pub reduce-ok : (c : Entry) → number c ≡ reciprocalOf F (scaled F (gauss w)) → ReducePre F (point (scaled F (gauss w))) c
   reduce-ok c e = record {
-    point = record {
-      re = record {
-        lo = lin (z .re ∷ two F ∷ []) (ranges .half & nonneg-pos (2 ^ F) & none) (search reify depth 20) tt;
-        hi = lin (z .re ∷ two F ∷ []) (ranges .below & none) (search reify depth 20) tt;
-      };
-      im = record {
-        lo = lin (z .re ∷ z .im ∷ two F ∷ []) (ranges .below & ranges .lo & none) (search reify depth 20) tt;
-        hi = lin (z .re ∷ z .im ∷ two F ∷ []) (ranges .below & ranges .hi & none) (search reify depth 20) tt;
-      };
-    };
+    point = scaled-parts ranges;
     factor = subst (λ z. Parts z (pos 124)) (sym e) (reciprocal-parts F wide z ranges);
   }
 

@@ -1,12 +1,10 @@
 -- How large the figures of LOG's answer are, for every input. Over a width F up to 48: one is 2^F units, and 01 has F = 48.
 use mathlib.Core.Path.{_≡_, sym, _∙_, ap, subst}
-use mathlib.Core.Bool.{not}
 use mathlib.Core.List.{[], _∷_}
 use Prim.Native.Nat.{ℕ, _+_, _-_, _^_, _≤_}
 use native.Mathlib.Omega.{arith}
 use lib.Dec.{lit≤}
 use lib.IntN.{ℤ, pos, negℤ, natAbs, _-ℤ_, _*ℤ_}
-use borrow.Author.Tests.{not-true}
 use Rattle.algebra.specs.Gauss.{𝔾, gi, two}
 use Rattle.algebra.specs.Order.{_⩽_}
 use Rattle.algebra.specs.Size.{Parts, larger}
@@ -18,26 +16,24 @@ use Rattle.algebra.proofs.Power.{two≥1, two-mono, two-mul}
 use Rattle.algebra.proofs.Parts.{size-sign, within-parts}
 use Rattle.algebra.proofs.Larger.{larger-parts, larger-le}
 use Rattle.point.specs.Point.{gauss}
-use Rattle.point.specs.Limits.{inSteps, inParts}
 use Rattle.point.proofs.InLimits.{Counts, steps-say, parts-say}
-use Rattle.answer.specs.declared.Refusal.the-variants.{Steps, Part, Zero}
 use Rattle.answer.specs.declared.Figures.{Figures}
 use Rattle.answer.specs.declared.Answer.{Answer}
 use Rattle.answer.specs.declared.Answer.the-variants.{Answered, Refused}
-use Rattle.answer.proofs.Tests.{unless-keeps}
+use Rattle.answer.proofs.Remainder.{remainder-size}
 use Rattle.table_numbers.specs.Promise.{StepTable, ReciprocalTable}
 use Rattle.table_numbers.specs.Table.{stepTable, reciprocalTable}
 use Rattle.table_numbers.proofs.Promises.{StepPromise, ReciprocalPromise}
 use Rattle.tables.proofs.Promises.{step-promise, reciprocal-promise}
-use Rattle.logarithm.specs.Answer.{isZero, figures, answer, errorBound, logAnswer}
+use Rattle.logarithm.specs.Answer.{figures, answer, errorBound, logAnswer}
 use Rattle.logarithm.specs.Code.{Accepted}
-use Rattle.logarithm.proofs.Close.{zero-says, answer-within, k-low, k-high}
+use Rattle.logarithm.proofs.Close.{zero-says, answer-keeps, answer-within, k-low, k-high, left-below}
 use Rattle.logarithm.proofs.Quadrant.{turn-spelled, HalfTurn, half-turn}
 use Rattle.logarithm.proofs.Convergence.{most}
 use Rattle.logarithm.proofs.Bound.{bound-enough, bound-least}
 
 -- at F = 48: N from 3 to 40, each part of the value at most 27/16 in size, k from −47 to 11, q from −2 to 2 and of the side of the axis on
--- which the point p lies, and an error bound from 0 to 3·2^55
+-- which the point p lies, an error bound from 0 to 3·2^55, and each part of the remainder at most 2^45 in size
 pub record LogRanges (F : ℕ) (n : ℤ) (p : 𝔾) (f : Figures) : Type 0 where
   pub steps-low : pos 3 ⩽ n
   pub steps-high : n ⩽ pos (F - 8)
@@ -49,6 +45,7 @@ pub record LogRanges (F : ℕ) (n : ℤ) (p : 𝔾) (f : Figures) : Type 0 where
   pub quadrant-side : HalfTurn p (f .quadrant)
   pub bound-low : pos 0 ⩽ f .«error_bound»
   pub bound-high : f .«error_bound» ⩽ pos 3 *ℤ two (F + 7)
+  pub remainder : Parts (gauss (f .remainder)) (two (F - 3))
 
 -- of an answer, if there is one
 abbrev pub Ranged : ℕ → ℤ → 𝔾 → Answer → Type 0
@@ -73,6 +70,7 @@ module _ (F : ℕ) (wide : 11 ≤ F) (narrow : F ≤ 48) (steps : StepTable) (lo
         (larger-le (parts-say F p (a .parts)) & eight
         &≡ nonneg-mul (sub-nonneg (two-mono 3 N (count .at-least))) (nonneg-pos (2 ^ (F + 7))) & none)
         (search reify depth 20) tt);
+    remainder = remainder-size F 3 N (count .at-least) (omega arith) (left-below F wide a steps logs);
   }
     where
       N : ℕ
@@ -88,12 +86,7 @@ module _ (F : ℕ) (wide : 11 ≤ F) (narrow : F ≤ 48) (steps : StepTable) (lo
           same = omega arith
 
   pub answer-ranges : Ranged F n p (answer F steps logs n p)
-  unfolding answer
-  answer-ranges =
-      unless-keeps (Ranged F n p) (inSteps F 3 n) Steps _ tt
-      (λ a. unless-keeps (Ranged F n p) (inParts F p) Part _ tt
-      (λ b. unless-keeps (Ranged F n p) (not (isZero p)) Zero _ tt
-      (λ c. figures-ranges (record { steps = a; parts = b; nonzero = not-true _ c }))))
+  answer-ranges = answer-keeps F steps logs n p (Ranged F n p) (λ r. tt) figures-ranges
 
 -- THE RANGES of the call
 pub log-ranges : (n x y : ℤ) → Ranged 48 n (gi x y) (logAnswer n x y)

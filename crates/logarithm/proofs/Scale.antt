@@ -237,3 +237,16 @@ ranges-suc F w c = subst (λ t. Scaled t (scaled (suc F) w)) (sym (two-suc F))
 pub scaled-ranges : (F : ℕ) → 1 ≤ F → (w : 𝔾) → Cone w → Scaled (two F) (scaled F w)
 scaled-ranges zero h w c = absurd (not-suc-le-zero h)
 scaled-ranges (suc F) h w c = ranges-suc F w c
+
+-- so neither part is above one in size
+pub scaled-parts : {U : ℤ} {p : 𝔾} → Scaled U p → Parts p U
+scaled-parts {U} {p} h = record {
+  re = record {
+    lo = lin (U ∷ p .re ∷ []) (h .half & h .below & none) (search reify depth 20) tt;
+    hi = lin (U ∷ p .re ∷ []) (h .below & none) (search reify depth 20) tt;
+  };
+  im = record {
+    lo = lin (U ∷ p .re ∷ p .im ∷ []) (h .below & h .lo & none) (search reify depth 20) tt;
+    hi = lin (U ∷ p .re ∷ p .im ∷ []) (h .below & h .hi & none) (search reify depth 20) tt;
+  };
+}

@@ -7,7 +7,7 @@ use Rattle.algebra.specs.Order.{_⩽_}
 use Rattle.algebra.specs.Rounding.{ceiling}
 use Rattle.algebra.specs.Size.{abs, larger}
 use Rattle.series.specs.Series.{Sᵍ, Dᵍ, Dᶻ}
-use Rattle.point.specs.Point.{gauss}
+use Rattle.point.specs.Point.{gauss, point, one}
 use Rattle.point.specs.Limits.{inSteps, inBox, inParts}
 use Rattle.answer.specs.declared.Refusal.the-variants.{Steps, Part, Zero}
 use Rattle.answer.specs.declared.Figures.{Figures}
@@ -41,13 +41,15 @@ module _ (F : ℕ) (steps : StepTable) (logs : ReciprocalTable) where
   abbrev pub ended : ℕ → 𝔾 → State
   ended n w = run F steps Log 2 (n - 2) (begun F logs w)
 
-  -- "The answer is minus the seat's logarithm, less the entries of the steps taken, with k and q"
+  -- "The answer is minus the seat's logarithm, less the entries of the steps taken, with k and q"; 02, E7: the remainder is "the point less
+  -- one"
   abbrev pub figures : ℕ → 𝔾 → Figures
   figures n p = record {
     value = ended n (turned p) .sum;
     «binary_exponent» = binary-exponent F (turned p);
     quadrant = quadrant p;
     «error_bound» = errorBound n p;
+    remainder = point (gauss (ended n (turned p) .point) -ᵍ one F);
   }
 
   -- "first 1, N outside 3 to 40; then 3, a part over 2^58 in size; then 4, the zero point"

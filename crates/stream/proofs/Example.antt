@@ -59,15 +59,19 @@ exp₃ : readLine line₃ ≡ Exp (pos 3) (pos 0) (at (pos 0) (pos 0)) (at (pos 
 unfolding readLine lineOf kindLine numbers readNumber readNatural value sameBytes between split line₃
 exp₃ = refl
 
-no-logarithm : recordOf (logAnswer (pos 40) (pos 0) (pos 0)) ≡ pos 4 ∷ pos 0 ∷ pos 0 ∷ pos 0 ∷ pos 0 ∷ pos 0 ∷ []
+-- the record of a refusal
+abbrev refused : ℤ → List ℤ
+refused r = r ∷ pos 0 ∷ pos 0 ∷ pos 0 ∷ pos 0 ∷ pos 0 ∷ pos 0 ∷ pos 0 ∷ []
+
+no-logarithm : recordOf (logAnswer (pos 40) (pos 0) (pos 0)) ≡ refused (pos 4)
 unfolding recordOf logAnswer log-answer inSteps inParts inBox isZero between
 no-logarithm = refl
 
-no-steps : recordOf (expAnswer (pos 0) (pos 0) (pos 0) (pos 0) (pos 0)) ≡ pos 1 ∷ pos 0 ∷ pos 0 ∷ pos 0 ∷ pos 0 ∷ pos 0 ∷ []
+no-steps : recordOf (expAnswer (pos 0) (pos 0) (pos 0) (pos 0) (pos 0)) ≡ refused (pos 1)
 unfolding recordOf expAnswer answer inSteps between
 no-steps = refl
 
-answer₁ : reply line₁ .bytes ≡ lineBytes (pos 1) EXP (pos 40 ∷ pos (2 ^ 48) ∷ pos 0 ∷ pos 0 ∷ pos 2128 ∷ [])
+answer₁ : reply line₁ .bytes ≡ lineBytes (pos 1) EXP (pos 40 ∷ pos (2 ^ 48) ∷ pos 0 ∷ pos 0 ∷ pos 0 ∷ pos 0 ∷ pos 2128 ∷ [])
 unfolding reply replyOf
 answer₁ = ap (λ l. replyOf l .bytes) exp₁ ∙ rw quoted-line
 
@@ -84,10 +88,10 @@ rises : Rises (pos 0) (serials (lines given))
 unfolding serials
 rises = rw (parted, exp₁, log₂, exp₃) (ltZ-yes tt, (ltZ-yes tt, (ltZ-yes tt, tt)))
 
--- THE RUN: BKM|48, 1|EXP|40|281474976710656|0|0|2128, 2|REF|4, 3|REF|1
+-- THE RUN: BKM|48, 1|EXP|40|281474976710656|0|0|0|0|2128, 2|REF|4, 3|REF|1
 pub whole-run : sheet given ≡
     heading
-    ++ (lineBytes (pos 1) EXP (pos 40 ∷ pos (2 ^ 48) ∷ pos 0 ∷ pos 0 ∷ pos 2128 ∷ [])
+    ++ (lineBytes (pos 1) EXP (pos 40 ∷ pos (2 ^ 48) ∷ pos 0 ∷ pos 0 ∷ pos 0 ∷ pos 0 ∷ pos 2128 ∷ [])
     ++ (lineBytes (pos 2) REF (pos 4 ∷ [])
     ++ (lineBytes (pos 3) REF (pos 1 ∷ []) ++ [])))
 unfolding answers

@@ -1,8 +1,10 @@
--- THE ROOM of an answer line: a width for each figure, and their sum. Every answer line fits 128 bytes.
+-- THE ROOM of an answer line: a width for each figure, and their sum. Every answer line fits 128 bytes; to a line that is read, whose serial
+-- has at most 7 digits, it has at most 115 bytes for EXP and 107 for LOG.
+use mathlib.Core.Path.{_≡_, refl}
 use mathlib.Core.List.{List, [], _∷_}
 use Prim.Native.Nat.{ℕ, suc, _+_, _^_, _≤_}
 use native.Mathlib.Omega.{arith}
-use lib.Dec.{T, lit<, lit≤, ltb→lt}
+use lib.Dec.{T, lit<, ltb→lt}
 use lib.IntN.{ℤ, pos, negsuc, negℤ}
 use lib.ListN.{length, length-append}
 use lib.Signed.{ltZ, ltZ-yes}
@@ -16,9 +18,10 @@ use Rattle.word.proofs.Fits.{sfits-range, sfits-pos}
 use Rattle.word.proofs.Compare.{between-true}
 use Rattle.buffer.specs.Decimal.{showNumber}
 use Rattle.buffer.specs.Lines.{fieldBytes, lineBytes}
-use Rattle.buffer.proofs.Written.{short, short-number}
+use Rattle.buffer.proofs.Written.{short, short-number, short-range}
 use Rattle.buffer.proofs.Lines.{line-length}
 use Rattle.scan.specs.declared.Number.{Number}
+use Rattle.point.specs.declared.Point.{Point}
 use Rattle.answer.specs.declared.Refusal.the-variants.{Steps, Exponent, Part, Zero}
 use Rattle.answer.specs.declared.Answer.{Answer}
 use Rattle.answer.specs.declared.Answer.the-variants.{Answered, Refused}
@@ -53,11 +56,13 @@ unfolding fieldBytes room
 fields-room end = omega arith
 fields-room (h and hs) = simp length-append (omega (arith, fields-room hs))
 
--- any serial, a word, the fields, and the newline
-pub line-fits : {ws : List ℕ} {zs : List ℤ} {b : ℕ} (serial : ℤ) (word : List ℕ) → SFits w64 serial → Widths ws zs →
-    22 + length word + room ws ≤ b →
-    length (lineBytes serial word zs) ≤ b
-line-fits serial word f h g = rw line-length (omega (arith, short-number serial f, fields-room h))
+-- a serial of at most w bytes, a word of three, the fields, and the newline
+abbrev pub line-most : ℕ → List ℕ → ℕ
+line-most w ws = 5 + w + room ws
+
+pub line-fits : {ws : List ℕ} {zs : List ℤ} {w : ℕ} (serial : ℤ) (word : List ℕ) → length word ≡ 3 → length (showNumber serial) ≤ w →
+    Widths ws zs → length (lineBytes serial word zs) ≤ line-most w ws
+line-fits serial word e f h = rw line-length (omega (arith, e, f, fields-room h))
 
 -- the width of a number from lo to hi: below zero it has a digit less, for its sign
 pub short-span : (k : ℕ) (z : ℤ) {lo hi : ℤ} → lo ⩽ z → z ⩽ hi → T (ltZ (negℤ (pos (10 ^ suc k))) lo) →
@@ -76,13 +81,13 @@ short-span k (negsuc n) {lo} l h s t = omega (arith, short k (suc n) (ltb→lt (
         (search reify depth 20) tt
 
 -- ---- the figures of each kind, from N on
--- N, two parts, k, the error bound
+-- N, two parts, the remainder, k, the error bound
 abbrev pub expWidths : List ℕ
-expWidths = 2 ∷ 20 ∷ 20 ∷ 3 ∷ 19 ∷ []
+expWidths = 2 ∷ 20 ∷ 20 ∷ 16 ∷ 16 ∷ 3 ∷ 19 ∷ []
 
--- N, two parts, k, q, the error bound
+-- N, two parts, the remainder, k, q, the error bound
 abbrev pub logWidths : List ℕ
-logWidths = 2 ∷ 16 ∷ 16 ∷ 3 ∷ 2 ∷ 18 ∷ []
+logWidths = 2 ∷ 16 ∷ 16 ∷ 15 ∷ 15 ∷ 3 ∷ 2 ∷ 18 ∷ []
 
 abbrev pub widthsOf : Kind → List ℕ
 widthsOf kind.Exp = expWidths
@@ -99,6 +104,8 @@ exp-widths n (Answered f) r =
     short-span 0 n (r .steps-low) (r .steps-high) tt tt
     and short-span 18 (f .value .x) (r .value .re .lo) (r .value .re .hi) tt tt
     and short-span 18 (f .value .y) (r .value .im .lo) (r .value .im .hi) tt tt
+    and short-span 14 (f .remainder .x) (r .remainder .re .lo) (r .remainder .re .hi) tt tt
+    and short-span 14 (f .remainder .y) (r .remainder .im .lo) (r .remainder .im .hi) tt tt
     and short-span 1 (f .«binary_exponent») (r .exponent .lo) (r .exponent .hi) tt tt
     and short-span 17 (f .«error_bound») (r .bound-low) (r .bound-high) tt tt
     and end
@@ -110,6 +117,8 @@ log-widths n p (Answered f) r =
     short-span 0 n (r .steps-low) (r .steps-high) tt tt
     and short-span 14 (f .value .x) (r .value .re .lo) (r .value .re .hi) tt tt
     and short-span 14 (f .value .y) (r .value .im .lo) (r .value .im .hi) tt tt
+    and short-span 13 (f .remainder .x) (r .remainder .re .lo) (r .remainder .re .hi) tt tt
+    and short-span 13 (f .remainder .y) (r .remainder .im .lo) (r .remainder .im .hi) tt tt
     and short-span 1 (f .«binary_exponent») (r .exponent-low) (r .exponent-high) tt tt
     and short-span 0 (f .quadrant) (r .quadrant-low) (r .quadrant-high) tt tt
     and short-span 16 (f .«error_bound») (r .bound-low) (r .bound-high) tt tt
@@ -122,20 +131,46 @@ exp-fitting n ex ey sx sy = exp-widths n (expAnswer n ex ey sx sy) (exp-ranges n
 pub log-fitting : (n x y : ℤ) → Fitting kind.Log n (logAnswer n x y)
 log-fitting n x y = log-widths n (gi x y) (logAnswer n x y) (log-ranges n x y)
 
--- ---- the line
+-- ---- the line, with a serial of at most w bytes
+-- that of a refusal, whose number has at most 20
+refused-bytes : (serial : ℤ) {refusal : ℤ} {w : ℕ} → length (showNumber serial) ≤ w → SFits w64 refusal →
+    length (refusedReply serial refusal .bytes) ≤ line-most w (20 ∷ [])
+refused-bytes serial {refusal} f g = line-fits serial _ refl f (short-number refusal g and end)
+
 pub refused-room : {serial refusal : ℤ} → SFits w64 serial → SFits w64 refusal → length (refusedReply serial refusal .bytes) ≤ answer-room
 unfolding room
-refused-room {serial} {refusal} f g = line-fits {ws = 20 ∷ []} serial _ f (short-number refusal g and end) (lit≤ tt)
+refused-room {serial} f g = omega (arith, refused-bytes serial (short-number serial f) g)
 
-pub figures-room : (k : Kind) (serial n : ℤ) (a : Answer) → SFits w64 serial → Fitting k n a →
-    length (answerReply k serial n (recordOf a) .bytes) ≤ answer-room
-unfolding recordOf room
-figures-room kind.Exp serial n (Answered f) s h = line-fits serial _ s h (lit≤ tt)
-figures-room kind.Log serial n (Answered f) s h = line-fits serial _ s h (lit≤ tt)
-figures-room k serial n (Refused Steps) s h = refused-room s (sfits-pos (lit< tt))
-figures-room k serial n (Refused Exponent) s h = refused-room s (sfits-pos (lit< tt))
-figures-room k serial n (Refused Part) s h = refused-room s (sfits-pos (lit< tt))
-figures-room k serial n (Refused Zero) s h = refused-room s (sfits-pos (lit< tt))
+-- that of an answer, which is no shorter
+abbrev pub answer-most : ℕ → Kind → ℕ
+answer-most w k = line-most w (widthsOf k)
+
+refused-fits : (k : Kind) (serial : ℤ) {refusal : ℤ} {w : ℕ} → length (showNumber serial) ≤ w → SFits w64 refusal →
+    length (refusedReply serial refusal .bytes) ≤ answer-most w k
+unfolding room
+refused-fits kind.Exp serial f g = omega (arith, refused-bytes serial f g)
+refused-fits kind.Log serial f g = omega (arith, refused-bytes serial f g)
+
+answer-bytes : (k : Kind) (serial n : ℤ) (a : Answer) {w : ℕ} → length (showNumber serial) ≤ w → Fitting k n a →
+    length (answerReply k serial n (recordOf a) .bytes) ≤ answer-most w k
+unfolding recordOf
+answer-bytes kind.Exp serial n (Answered f) s h = line-fits serial _ refl s h
+answer-bytes kind.Log serial n (Answered f) s h = line-fits serial _ refl s h
+answer-bytes k serial n (Refused Steps) s h = refused-fits k serial s (sfits-pos (lit< tt))
+answer-bytes k serial n (Refused Exponent) s h = refused-fits k serial s (sfits-pos (lit< tt))
+answer-bytes k serial n (Refused Part) s h = refused-fits k serial s (sfits-pos (lit< tt))
+answer-bytes k serial n (Refused Zero) s h = refused-fits k serial s (sfits-pos (lit< tt))
+
+exp-bytes : (serial n : ℤ) (exponent start : Point) {w : ℕ} → length (showNumber serial) ≤ w →
+    length (replyOf (line.Exp serial n exponent start) .bytes) ≤ answer-most w kind.Exp
+unfolding replyOf
+exp-bytes serial n exponent start s = answer-bytes kind.Exp serial n _ s
+    (exp-fitting n (exponent .x) (exponent .y) (start .x) (start .y))
+
+log-bytes : (serial n : ℤ) (point : Point) {w : ℕ} → length (showNumber serial) ≤ w →
+    length (replyOf (line.Log serial n point) .bytes) ≤ answer-most w kind.Log
+unfolding replyOf
+log-bytes serial n point s = answer-bytes kind.Log serial n _ s (log-fitting n (point .x) (point .y))
 
 -- the serial is a number of the machine, and need not lie in 01's range
 abbrev pub SerialFits : Number → Type 0
@@ -143,11 +178,19 @@ SerialFits num.Not = Unit {0}
 SerialFits (num.Is serial) = SFits w64 serial
 
 pub reply-room : (l : Line) → SerialFits (serialOf l) → length (replyOf l .bytes) ≤ answer-room
-unfolding replyOf
+unfolding replyOf room
 reply-room line.Malformed f = refused-room (sfits-pos (lit< tt)) (sfits-pos (lit< tt))
-reply-room (line.Exp serial n exponent start) f = figures-room kind.Exp serial n _ f
-    (exp-fitting n (exponent .x) (exponent .y) (start .x) (start .y))
-reply-room (line.Log serial n point) f = figures-room kind.Log serial n _ f (log-fitting n (point .x) (point .y))
+reply-room (line.Exp serial n exponent start) f = exp-bytes serial n exponent start (short-number serial f)
+reply-room (line.Log serial n point) f = omega (arith, log-bytes serial n point (short-number serial f))
+
+-- in 01's range it has at most 7 digits
+pub exp-longest : (serial n : ℤ) (exponent start : Point) → IsSerial serial → length (replyOf (line.Exp serial n exponent start) .bytes) ≤ 115
+unfolding room
+exp-longest serial n exponent start h = exp-bytes serial n exponent start (short-range 1 6 serial (lit< tt) h)
+
+pub log-longest : (serial n : ℤ) (point : Point) → IsSerial serial → length (replyOf (line.Log serial n point) .bytes) ≤ 107
+unfolding room
+log-longest serial n point h = log-bytes serial n point (short-range 1 6 serial (lit< tt) h)
 
 -- ---- a line that is read
 pub serial-fits : (z : ℤ) → IsSerial z → SFits w64 z

@@ -6,7 +6,7 @@ use lib.Dec.{ltb}
 use lib.IntN.{ℤ, pos, negsuc}
 use lib.ListN.{length, drop}
 use Rattle.buffer.specs.Lines.{lineBytes}
-use Rattle.answer.specs.Record.{recordOf, refusal-in, re-in, im-in, binary-exponent-in, quadrant-in, error-bound-in}
+use Rattle.answer.specs.Record.{recordOf, refusal-in, re-in, im-in, binary-exponent-in, quadrant-in, error-bound-in, remainder-re-in, remainder-im-in}
 use Rattle.exponential.specs.Answer.{expAnswer}
 use Rattle.logarithm.specs.Answer.{logAnswer}
 use Rattle.text.specs.declared.Kind.{Kind}
@@ -16,15 +16,17 @@ use Rattle.text.specs.declared.Kind.the-variants as kind
 use Rattle.text.specs.declared.Line.the-variants as line
 
 -- ---- an answer of either kind, out of its record: "kernel number, kind, N, the two parts, for LOG k and q, then the column"; 02, E5: "k
--- stands before the column on every EXP line"
+-- stands before the column on every EXP line"; 02, E7: the remainder's "Two fields follow the parts"
 abbrev pub wordOf : Kind → List ℕ
 wordOf kind.Exp = EXP
 wordOf kind.Log = LOG
 
 -- THE FIELDS from N on
 abbrev pub fieldsOf : Kind → ℤ → List ℤ → List ℤ
-fieldsOf kind.Exp n r = n ∷ re-in r ∷ im-in r ∷ binary-exponent-in r ∷ error-bound-in r ∷ []
-fieldsOf kind.Log n r = n ∷ re-in r ∷ im-in r ∷ binary-exponent-in r ∷ quadrant-in r ∷ error-bound-in r ∷ []
+fieldsOf kind.Exp n r = n ∷ re-in r ∷ im-in r ∷ remainder-re-in r ∷ remainder-im-in r
+    ∷ binary-exponent-in r ∷ error-bound-in r ∷ []
+fieldsOf kind.Log n r = n ∷ re-in r ∷ im-in r ∷ remainder-re-in r ∷ remainder-im-in r
+    ∷ binary-exponent-in r ∷ quadrant-in r ∷ error-bound-in r ∷ []
 
 -- ---- what a line is answered: the refusal number or 0, and the bytes
 pub record Reply : Type 0 where

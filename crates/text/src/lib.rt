@@ -154,11 +154,11 @@ fn put_figures(kind: Kind, serial: i64, n: i64, f: Figures, out: &mut [u8]) -> u
     let r = Answer::Answered(f).record();
     match kind {
         Kind::Exp => {
-            let fields = [n, r[1], r[2], r[3], r[5]];
+            let fields = [n, r[1], r[2], r[6], r[7], r[3], r[5]];
             buffer::put_line(serial, b"EXP", &fields, out, 0)
         }
         Kind::Log => {
-            let fields = [n, r[1], r[2], r[3], r[4], r[5]];
+            let fields = [n, r[1], r[2], r[6], r[7], r[3], r[4], r[5]];
             buffer::put_line(serial, b"LOG", &fields, out, 0)
         }
     }

@@ -2,7 +2,7 @@
 
 pub mod program;
 
-use reference::answer::{write_record, Answer, RECORD_BYTES};
+use reference::answer::{write_record, Answer, Figures, Record, RECORD_BYTES};
 use reference::{exponential, logarithm};
 
 // A lent buffer is passed as its address and its length.
@@ -56,7 +56,7 @@ pub fn step_entry(n: usize, dx: i64, dy: i64) -> (i64, i64) {
     unsafe { (bkm_step_entry(n, dx, dy, 0), bkm_step_entry(n, dx, dy, 1)) }
 }
 
-/// What a call hands back and writes into 48 bytes.
+/// What a call hands back and writes into 64 bytes.
 pub type Outcome = (i64, [u8; RECORD_BYTES]);
 
 pub fn expected(answer: Answer) -> Outcome {
@@ -69,13 +69,38 @@ pub fn observed(call: impl FnOnce(&mut [u8]) -> i64) -> Outcome {
     (call(&mut out), out)
 }
 
-/// The six numbers of a record, the first of which is also handed back.
-pub fn numbers((handed, record): Outcome) -> [i64; 6] {
+/// The numbers of a record, the first of which is also handed back.
+pub fn numbers((handed, record): Outcome) -> Record {
     let numbers = std::array::from_fn(|i| {
         i64::from_le_bytes(record[8 * i..8 * i + 8].try_into().expect("eight bytes"))
     });
     assert_eq!(handed, numbers[0]);
     numbers
+}
+
+/// The figures of a record; none when refused.
+fn figures(call: impl FnOnce(&mut [u8]) -> i64) -> Option<Figures> {
+    let [refusal, x, y, binary_exponent, quadrant, error_bound, remainder_x, remainder_y] =
+        numbers(observed(call));
+    (refusal == 0).then_some(Figures {
+        x,
+        y,
+        binary_exponent,
+        quadrant,
+        error_bound,
+        remainder_x,
+        remainder_y,
+    })
+}
+
+#[inline]
+pub fn exp_figures(input: exponential::Input) -> Option<Figures> {
+    figures(|out| exp(input, out))
+}
+
+#[inline]
+pub fn log_figures(input: logarithm::Input) -> Option<Figures> {
+    figures(|out| log(input, out))
 }
 
 /// Lends buffers of every length up to 200, at every alignment, between bytes that must
@@ -90,6 +115,7 @@ pub fn check_buffers(answer: Answer, call: impl Fn(&mut [u8]) -> i64) {
             let lent = MARGIN - offset..MARGIN - offset + length;
             let handed = call(&mut seen[lent.clone()]);
             assert_eq!(handed, write_record(answer, &mut wanted[lent]), "{length} bytes");
+            assert_eq!(handed == 6, length < 64, "{length} bytes");
             assert_eq!(seen, wanted, "{length} bytes");
         }
     }

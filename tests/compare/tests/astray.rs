@@ -1,9 +1,9 @@
-//! 01, Where a step goes astray, a step that does not round as 02, E1 says, and a reduction or a
-//! reciprocal that is not that of 02, E5 and E6: the product against the second implementation with
-//! one fault put in, on inputs at which the fault shows.
+//! 01, Where a step goes astray, a step that does not round as 02, E1 says, and a reduction, a
+//! reciprocal or a remainder that is not that of 02, E5, E6 and E7: the product against the second
+//! implementation with one fault put in, on inputs at which the fault shows.
 
-use compare::{numbers, observed};
-use reference::answer::{record, Figures};
+use compare::{exp_figures, log_figures};
+use reference::answer::Figures;
 use reference::edges::{EXP, EX_GREATEST, EY_GREATEST, H, ONE, Q};
 use reference::exponential::{
     self, in_rectangle, nearest_multiple, Input as Exp, Reduction, CUT, FACTORS,
@@ -55,6 +55,14 @@ enum Fault {
     DoublingsSign,
     /// M of the given start.
     GivenLarger,
+    /// The remainder before the last step.
+    RemainderEarly,
+    /// Its parts exchanged.
+    RemainderAcross,
+    /// What is left of the given exponent and not of the reduced one.
+    RemainderGiven,
+    /// LOG's point itself, not less one.
+    RemainderPoint,
 }
 
 use Fault::*;
@@ -133,24 +141,39 @@ impl Fault {
         }
     }
 
-    fn exp(self, input: Exp) -> [i64; 6] {
+    /// Of what is left before the last step and after it.
+    fn remainder(self, [before, after]: [Point; 2]) -> Point {
+        match self {
+            RemainderEarly => before,
+            RemainderAcross => point(after.y, after.x),
+            _ => after,
+        }
+    }
+
+    fn exp(self, input: Exp) -> Figures {
         let Reduction { mut exponent, mut start, binary_exponent } = self.reduction(input);
         let measured = if self == GivenLarger { input.start() } else { start };
+        let lost = if self == RemainderGiven { input.exponent() - exponent } else { point(0, 0) };
         let count = input.n as u32;
+        let mut before = exponent;
         for n in 1..=count {
             let digit = exponential::digit(exponent, n, CUT, W);
+            before = exponent;
             exponent = exponent - self.entry(digit, n);
             start = self.step(start, digit, n);
         }
         let error_bound =
             ceiling_quotient(8 * measured.larger_part(), count) + 2 * i128::from(count);
-        record(Ok(Figures {
+        let remainder = self.remainder([before, exponent]) + lost;
+        Figures {
             x: word(start.x),
             y: word(start.y),
             binary_exponent,
             quadrant: 0,
             error_bound: word(error_bound),
-        }))
+            remainder_x: word(remainder.x),
+            remainder_y: word(remainder.y),
+        }
     }
 
     fn reciprocal(self, x: i128, y: i128) -> Point {
@@ -164,7 +187,7 @@ impl Fault {
     }
 
     /// None when the scaled point has no cell, as it may have none by rounding up to one.
-    fn log(self, input: Log) -> Option<Point> {
+    fn log(self, input: Log) -> Option<Figures> {
         let reduction = logarithm::reduce(input.point(), W);
         let turned = input.point().turned(-reduction.quadrant);
         let k = reduction.binary_exponent;
@@ -182,25 +205,31 @@ impl Fault {
         let [x, y] = [product.x, product.y].map(|part| floor(part, 6));
         let (mut near_one, mut answer) =
             (point(x, y), point(0, 0) - tables(W).reciprocal_log(cx, cy));
+        let one = point(W.one(), 0);
+        let mut before = near_one;
         for n in logarithm::FIRST_STEP..=input.n as u32 {
-            let digit = logarithm::digit(near_one - point(W.one(), 0), n, W);
+            let digit = logarithm::digit(near_one - one, n, W);
+            before = near_one;
             near_one = self.step(near_one, digit, n);
             answer = answer - self.entry(digit, n);
         }
-        Some(answer)
+        let less = if self == RemainderPoint { point(0, 0) } else { one };
+        let remainder = self.remainder([before - less, near_one - less]);
+        let error_bound = ceiling_quotient(3 * input.point().larger_part(), input.n as u32);
+        Some(Figures {
+            x: word(answer.x),
+            y: word(answer.y),
+            binary_exponent: k.into(),
+            quadrant: reduction.quadrant,
+            error_bound: word(error_bound),
+            remainder_x: word(remainder.x),
+            remainder_y: word(remainder.y),
+        })
     }
 }
 
-/// The product's record; none when refused.
-fn product_exp(input: Exp) -> Option<[i64; 6]> {
-    let record = numbers(observed(|out| compare::exp(input, out)));
-    (record[0] == 0).then_some(record)
-}
-
-/// The parts of the product's answer; none when refused.
-fn product_log(input: Log) -> Option<Point> {
-    let [refusal, x, y, ..] = numbers(observed(|out| compare::log(input, out)));
-    (refusal == 0).then_some(point(x.into(), y.into()))
+fn parts(figures: Option<Figures>) -> Option<Point> {
+    figures.map(Figures::parts)
 }
 
 /// One step by hand.
@@ -222,8 +251,9 @@ fn one_step() {
         (Exp { sx: ONE, sy: -ONE, ..imaginary }, [3 * ONE / 2, -ONE / 2], NewX),
     ];
     for (input, parts, fault) in cases {
-        assert_eq!(product_exp(input).unwrap()[1..3], parts, "{input:?}");
-        assert_ne!(fault.exp(input)[1..3], parts, "{fault:?} does not show at {input:?}");
+        let [x, y] = parts.map(i128::from);
+        assert_eq!(exp_figures(input).unwrap().parts(), point(x, y), "{input:?}");
+        assert_ne!(fault.exp(input).parts(), point(x, y), "{fault:?} does not show at {input:?}");
     }
 }
 
@@ -241,11 +271,12 @@ fn every_count_of_steps() {
             (one, HalfLost),
             (one, MinusSquares),
         ] {
-            let seen = product_exp(input).unwrap();
+            let (seen, faulty) = (exp_figures(input).unwrap(), fault.exp(input));
             assert_eq!(seen, Right.exp(input), "{input:?}");
-            // The first step has the digit 1 + i whatever its entry is.
+            assert_ne!(seen, faulty, "{fault:?} does not show at {input:?}");
+            // The first step has the digit 1 + i whatever its entry is: only the remainder tells.
             let shows = n > 1 || !matches!(fault, HalfLost | MinusSquares);
-            assert!(!shows || seen != fault.exp(input), "{fault:?} does not show at {input:?}");
+            assert_eq!(seen.parts() != faulty.parts(), shows, "{fault:?} at {input:?}");
         }
     }
 }
@@ -266,9 +297,36 @@ fn reduction_of_exp() {
             (Exp { ex: 2 * H, ..one }, DoublingsSign),
             (Exp { ey: Q, sy: ONE, ..one }, GivenLarger),
         ] {
-            let seen = product_exp(input).unwrap();
+            let seen = exp_figures(input).unwrap();
             assert_eq!(seen, Right.exp(input), "{input:?}");
             assert_ne!(seen, fault.exp(input), "{fault:?} does not show at {input:?}");
+        }
+    }
+}
+
+/// The remainder at every N. An exponent of 1/2^(N+1) meets its first digit at the last step.
+#[test]
+fn remainders() {
+    for n in 1..=40 {
+        let late = Exp { n, ex: ONE >> (n + 1), ..EXP };
+        let far = Exp { ex: late.ex + 3 * H, ..late };
+        for (input, fault) in [
+            (late, RemainderEarly),
+            (late, RemainderAcross),
+            (far, RemainderEarly),
+            (far, RemainderGiven),
+        ] {
+            let seen = exp_figures(input).unwrap();
+            assert_eq!(seen, Right.exp(input), "{input:?}");
+            assert_ne!(seen, fault.exp(input), "{fault:?} does not show at {input:?}");
+        }
+    }
+    for n in 3..=40 {
+        let input = Log { n, x: ONE, y: ONE / 3 };
+        let seen = log_figures(input);
+        assert_eq!(seen, Right.log(input), "{input:?}");
+        for fault in [RemainderAcross, RemainderPoint] {
+            assert_ne!(seen, fault.log(input), "{fault:?} does not show at {input:?}");
         }
     }
 }
@@ -284,9 +342,13 @@ fn scale_of_log() {
                 for q in 0..4 {
                     let Point { x, y } = turned.turned(q);
                     let input = Log { n: 40, x: x as i64, y: y as i64 };
-                    let seen = product_log(input);
+                    let seen = log_figures(input);
                     assert_eq!(seen, Right.log(input), "{input:?}");
-                    assert_ne!(seen, ScaleCut.log(input), "does not show at {input:?}");
+                    assert_ne!(
+                        parts(seen),
+                        parts(ScaleCut.log(input)),
+                        "does not show at {input:?}"
+                    );
                 }
             }
         }
@@ -302,9 +364,9 @@ fn reciprocals_of_log() {
         for (cx, cy) in cell_xs().flat_map(|cx| cell_ys().map(move |cy| (cx, cy))) {
             if -cx < cy && cy <= cx {
                 let input = Log { n: 40, x: (cx << 43) as i64, y: (cy << 43) as i64 };
-                let seen = product_log(input);
+                let seen = log_figures(input);
                 assert_eq!(seen, Right.log(input), "{input:?}");
-                let shows = seen != fault.log(input);
+                let shows = parts(seen) != parts(fault.log(input));
                 let changes = fault.reciprocal(cx, cy) != reciprocal(cx, cy);
                 assert_eq!(shows, changes, "{fault:?} at {input:?}");
                 shown += u32::from(shows);
@@ -334,10 +396,13 @@ fn random_inputs() {
         DoublingsFirst,
         DoublingsSign,
         GivenLarger,
+        RemainderEarly,
+        RemainderAcross,
+        RemainderGiven,
     ] {
         let inputs = (0..SAMPLES).map(|_| exp_input(&mut random, W));
         let shown = inputs.filter(|&input| {
-            product_exp(input).is_some_and(|seen| {
+            exp_figures(input).is_some_and(|seen| {
                 assert_eq!(seen, Right.exp(input), "{input:?}");
                 seen != fault.exp(input)
             })
@@ -360,10 +425,13 @@ fn random_inputs() {
         NewX,
         HalfLost,
         MinusSquares,
+        RemainderEarly,
+        RemainderAcross,
+        RemainderPoint,
     ] {
         let inputs = (0..SAMPLES).map(|_| log_input(&mut random, W));
         let shown = inputs.filter(|&input| {
-            let seen = product_log(input);
+            let seen = log_figures(input);
             seen.is_some() && {
                 assert_eq!(seen, Right.log(input), "{input:?}");
                 seen != fault.log(input)

@@ -1,10 +1,12 @@
-//! The edges and limits of 01 and of 02, E5 on the product, in their numbers; every record also
+//! The edges and limits of 01 and of 02, E5 and E7 on the product, in their numbers; every record also
 //! against the second implementation.
 
 use compare::{expected, numbers, observed};
+use reference::answer::Record;
 use reference::edges::{
-    exp_records, exp_refusals, exp_scales, far_exp_records, figure_digits, log_bounds,
-    log_one_digits, log_reductions, log_refusals, EXP, LOG, ONE,
+    exp_of_zero, exp_records, exp_refusals, exp_remainders, exp_scales, far_exp_records,
+    figure_digits, log_bounds, log_one_digits, log_one_remainders, log_reductions, log_refusals,
+    EXP, LOG, ONE,
 };
 use reference::exponential::{self, exp, Input as Exp, CUT};
 use reference::figure::EXPONENT;
@@ -13,22 +15,23 @@ use reference::point::{point, Digit, Point};
 use reference::tables::{cell_xs, cell_ys, tables};
 use reference::width::WIDTH_48 as W;
 
-fn exp_record(input: Exp) -> [i64; 6] {
+fn exp_record(input: Exp) -> Record {
     let seen = observed(|out| compare::exp(input, out));
     assert_eq!(seen, expected(exp(input, W)), "{input:?}");
     numbers(seen)
 }
 
-fn log_record(input: Log) -> [i64; 6] {
+fn log_record(input: Log) -> Record {
     let seen = observed(|out| compare::log(input, out));
     assert_eq!(seen, expected(log(input, W)), "{input:?}");
     numbers(seen)
 }
 
-fn parts(record: [i64; 6]) -> Point {
-    let [refusal, x, y, ..] = record;
+/// The answer and the remainder.
+fn points(record: Record) -> [Point; 2] {
+    let [refusal, x, y, _, _, _, rx, ry] = record;
     assert_eq!(refusal, 0);
-    point(x.into(), y.into())
+    [point(x.into(), y.into()), point(rx.into(), ry.into())]
 }
 
 #[test]
@@ -36,7 +39,7 @@ fn limits_of_exp() {
     for (input, refusal) in exp_refusals() {
         let record = exp_record(input);
         assert_eq!(record[0], refusal, "{input:?}");
-        assert!(refusal == 0 || record[1..] == [0; 5], "{input:?}");
+        assert!(refusal == 0 || record[1..] == [0; 7], "{input:?}");
     }
 }
 
@@ -45,15 +48,33 @@ fn limits_of_log() {
     for (input, refusal) in log_refusals() {
         let record = log_record(input);
         assert_eq!(record[0], refusal, "{input:?}");
-        assert!(refusal == 0 || record[1..] == [0; 5], "{input:?}");
+        assert!(refusal == 0 || record[1..] == [0; 7], "{input:?}");
     }
 }
 
-/// Start zero at every N among them.
 #[test]
 fn records_of_exp() {
     for (input, wanted) in exp_records().into_iter().chain(far_exp_records()) {
         assert_eq!(exp_record(input), wanted, "{input:?}");
+    }
+}
+
+#[test]
+fn exp_of_start_zero() {
+    for input in exp_of_zero() {
+        let (zero, other) = (exp_record(input), exp_record(Exp { sx: ONE, ..input }));
+        assert_eq!(zero[..6], [0, 0, 0, 0, 0, 2 * input.n], "{input:?}");
+        assert_eq!(zero[6..], other[6..], "{input:?}");
+    }
+}
+
+#[test]
+fn remainders() {
+    for (input, remainder) in exp_remainders() {
+        assert_eq!(exp_record(input)[6..], remainder, "{input:?}");
+    }
+    for (input, remainder) in log_one_remainders() {
+        assert_eq!(log_record(input)[6..], remainder, "{input:?}");
     }
 }
 
@@ -103,16 +124,19 @@ fn only_digit(holds: impl Fn(Digit) -> bool) -> Digit {
     digits[0]
 }
 
-/// No call hands digits back, but the answers for N - 1 and N tell the one of step N.
+/// No call hands digits back, but the answers for N - 1 and N tell the one of step N, and the
+/// remainders the same one.
 #[test]
 fn digits_of_the_figure() {
     let start = point(ONE.into(), 0);
     let at = |n: u32| Exp { n: n.into(), ex: EXPONENT.x as i64, ey: EXPONENT.y as i64, ..EXP };
-    let mut last = start;
+    let mut last = [start, EXPONENT];
     let mut digits = Vec::new();
     for n in 1..=40 {
-        let next = parts(exp_record(at(n)));
-        digits.push(only_digit(|digit| last.step(digit, n) == next));
+        let next = points(exp_record(at(n)));
+        let digit = only_digit(|digit| last[0].step(digit, n) == next[0]);
+        assert_eq!(next[1], last[1] - tables(W).step(n, digit), "step {n}");
+        digits.push(digit);
         last = next;
     }
     assert_eq!(digits[..8], figure_digits());
@@ -124,11 +148,15 @@ fn digits_of_the_figure() {
 fn digits_of_log_of_one() {
     let reduction = reduce(LOG.point(), W);
     let cell = reduction.cell;
-    let mut last = point(0, 0) - tables(W).reciprocal_log(cell.x, cell.y);
+    let one = point(ONE.into(), 0);
+    let reciprocal_log = tables(W).reciprocal_log(cell.x, cell.y);
+    let mut last = [point(0, 0) - reciprocal_log, reduction.point - one];
     let mut digits = Vec::new();
     for n in 3..=40 {
-        let next = parts(log_record(Log { n: n.into(), ..LOG }));
-        digits.push(only_digit(|digit| last - tables(W).step(n, digit) == next));
+        let next = points(log_record(Log { n: n.into(), ..LOG }));
+        let digit = only_digit(|digit| last[0] - tables(W).step(n, digit) == next[0]);
+        assert_eq!(next[1] + one, (last[1] + one).step(digit, n), "step {n}");
+        digits.push(digit);
         last = next;
     }
     assert_eq!(digits[..3], log_one_digits());
@@ -140,7 +168,7 @@ fn digits_of_log_of_one() {
 /// has the digit 0: what it answers is minus the logarithm of that number.
 #[test]
 fn reciprocal_of_a_cell() {
-    let answer = parts(log_record(Log { n: 3, x: 17 * ONE / 32, y: ONE / 32 }));
+    let [answer, _] = points(log_record(Log { n: 3, x: 17 * ONE / 32, y: ONE / 32 }));
     let (a, b) = (120f64 / 64.0, -7f64 / 64.0);
     let near = |units: i128, value: f64| (units as f64 - value * ONE as f64).abs() < 1.0;
     assert!(near(answer.x, -a.hypot(b).ln()) && near(answer.y, -b.atan2(a)), "{answer:?}");

@@ -42,7 +42,7 @@ fn buffers() {
 }
 
 /// Figure 1 of 001: its exponent from one, for every N as the second implementation has it, and
-/// row k + 1 as printed for N = k. (Rows past the ninth were made with other thresholds;
+/// row k + 1 as printed for N = k, the answer and the remainder. (Rows past the ninth were made with other thresholds;
 /// `reference` has them.)
 #[test]
 fn figure_1() {
@@ -53,17 +53,17 @@ fn figure_1() {
         sx: 1 << 48,
         sy: 0,
     };
-    let mut rows = vec![[1 << 48, 0]];
+    let mut rows = vec![[1 << 48, 0, input(0).ex, input(0).ey]];
     for n in 1..=40 {
         let seen = observed(|out| compare::exp(input(n), out));
         assert_eq!(seen, expected(exp(input(n), WIDTH_48)), "{n} steps");
-        let [refusal, x, y, ..] = numbers(seen);
+        let [refusal, x, y, _, _, _, rx, ry] = numbers(seen);
         assert_eq!(refusal, 0);
-        rows.push([x, y]);
+        rows.push([x, y, rx, ry]);
     }
     for (k, printed) in figure::rows_of_01() {
-        let [x, y] = rows[k - 1].map(i128::from);
-        let seen = [figure::like(printed[0], x), figure::like(printed[1], y)];
-        assert_eq!(seen, printed[..2], "row {k}");
+        for (units, text) in rows[k - 1].into_iter().zip(printed) {
+            assert_eq!(figure::like(text, units.into()), text, "row {k}");
+        }
     }
 }

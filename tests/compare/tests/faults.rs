@@ -116,7 +116,7 @@ fn input_that_fails_inside_a_line() {
     let output = command.stdin(Stdio::from(OwnedFd::from(theirs))).output().unwrap();
     assert_eq!(said(&output), "bkm: standard input: Resource temporarily unavailable\n");
     let seen = String::from_utf8_lossy(&output.stdout);
-    assert_eq!(seen, format!("{HEADING}1\tEXP\t40\t281474976710656\t0\t0\t2128\n"));
+    assert_eq!(seen, format!("{HEADING}1\tEXP\t40\t281474976710656\t0\t0\t0\t0\t2128\n"));
 }
 
 /// The reader goes after the heading. The system's signal ends the program; where that is ignored

@@ -31,7 +31,7 @@ fn angles() {
     let (mut met, mut past) = ([0; 5], 0);
     for _ in 0..SAMPLES {
         let input = log_input(&mut random, WIDTH_48);
-        let [refusal, _, y, _, q, _] = numbers(observed(|out| compare::log(input, out)));
+        let [refusal, _, y, _, q, ..] = numbers(observed(|out| compare::log(input, out)));
         if refusal != 0 {
             continue;
         }

@@ -1,5 +1,7 @@
 //! What a call hands out: figures or a refusal, and the record of the C calls.
 
+use crate::point::{point, Point};
+
 #[derive(Clone, Copy, PartialEq, Eq, Debug)]
 pub enum Refusal {
     Steps = 1,
@@ -22,18 +24,36 @@ pub struct Figures {
     pub quadrant: i64,
     /// The "column" of 01.
     pub error_bound: i64,
+    /// 02, E7: what the steps leave of EXP's exponent, or LOG's point less one.
+    pub remainder_x: i64,
+    pub remainder_y: i64,
+}
+
+impl Figures {
+    pub fn parts(self) -> Point {
+        point(self.x.into(), self.y.into())
+    }
+
+    pub fn remainder(self) -> Point {
+        point(self.remainder_x.into(), self.remainder_y.into())
+    }
 }
 
 pub type Answer = Result<Figures, Refusal>;
 
-/// The bytes of a record: six signed numbers of eight.
-pub const RECORD_BYTES: usize = 48;
+/// Refusal number or 0, the parts, k, q, error bound, the parts of the remainder; all figures 0 when
+/// refused.
+pub type Record = [i64; 8];
 
-/// Refusal number or 0, the parts, k, q, error bound; all figures 0 when refused.
-pub fn record(answer: Answer) -> [i64; 6] {
+/// The bytes of a record: signed numbers of eight.
+pub const RECORD_BYTES: usize = 64;
+
+pub fn record(answer: Answer) -> Record {
     match answer {
-        Ok(f) => [0, f.x, f.y, f.binary_exponent, f.quadrant, f.error_bound],
-        Err(refusal) => [refusal as i64, 0, 0, 0, 0, 0],
+        Ok(Figures { x, y, binary_exponent, quadrant, error_bound, remainder_x, remainder_y }) => {
+            [0, x, y, binary_exponent, quadrant, error_bound, remainder_x, remainder_y]
+        }
+        Err(refusal) => [refusal as i64, 0, 0, 0, 0, 0, 0, 0],
     }
 }
 

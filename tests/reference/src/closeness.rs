@@ -1,4 +1,5 @@
-//! Demand 3 of 01, and what 02, E5 makes of it: how near an answer is to the exact exponential.
+//! Demand 3 of 01, and what 02, E5 makes of it: how near an answer is to the exact exponential; and
+//! how near it is with its remainder (02, E7).
 
 use crate::answer::Figures;
 use crate::fixed::{Complex, Fixed};
@@ -25,6 +26,18 @@ impl Closeness {
     }
 }
 
+/// What is held to the exact exponential.
+#[derive(Clone, Copy, PartialEq, Eq, Debug)]
+pub enum Claim {
+    /// The answer, within its column.
+    Column,
+    /// The answer and what the steps have left, within what the rounding of tables and steps can
+    /// amount to: but for that, the remainder says how far off the answer is.
+    WithRemainder,
+}
+
+use Claim::{Column, WithRemainder};
+
 /// A sum that stands for every longer one: for |z| up to a radius the terms behind it add to less
 /// than 1/2^tail_bits, what the sum itself is off included, which is less than 2^-290.
 pub struct Series {
@@ -46,7 +59,9 @@ impl Series {
         z.exponential(self.terms)
     }
 
-    /// `larger` is M. Both factors that meet the sum have a length of at most 2M.
+    /// `larger` is M. Both factors that meet the sum have a length of at most 2M. The terms behind
+    /// the sum leave a third of 2^-tail_bits for a remainder: for the factor 1 + remainder, which is
+    /// below 5/4, and for the sum of exp(remainder), whose tail is below 2^-90.
     fn closeness(&self, difference: Complex, larger: i128, allowed: Fixed) -> Closeness {
         let error = difference.larger_part() + Fixed::ratio(2 * larger, self.tail_bits);
         Closeness { error, allowed }
@@ -63,28 +78,51 @@ pub fn exp_series(exponent: Point, width: Width) -> Series {
 }
 
 /// 2^k times the answer, less start·exp(exponent), against 8M/2^N + 2N times 2^k; M is the larger
-/// part of the start that the steps run on, which is at least as long as the given one.
-pub fn exp_closeness(input: exponential::Input, figures: Figures, width: Width) -> Closeness {
-    let n = input.n as u32;
+/// part of the start that the steps run on, which is at least as long as the given one. With the
+/// remainder, 2^k·answer·exp(remainder) against (12N + 51)·M/2^F + 2N + 3 times 2^k.
+pub fn exp_closeness(
+    input: exponential::Input,
+    figures: Figures,
+    claim: Claim,
+    width: Width,
+) -> Closeness {
+    let (n, f) = (i128::from(input.n), width.fraction_bits);
     let series = exp_series(input.exponent(), width);
     let larger = input.reduction(width).start.larger_part();
     let exact = whole(input.start()) * series.sum(scaled(input.exponent(), width));
     let power = power_of_two(figures.binary_exponent);
-    let answer = whole(point(figures.x.into(), figures.y.into()));
+    let answer = whole(figures.parts());
+    let (answer, allowed) = match claim {
+        Column => (answer, Fixed::ratio(8 * larger, n as u32) + Fixed::ratio(2 * n, 0)),
+        WithRemainder => (
+            answer * series.sum(scaled(figures.remainder(), width)),
+            Fixed::ratio((12 * n + 51) * larger, f) + Fixed::ratio(2 * n + 3, 0),
+        ),
+    };
     let answer = Complex { re: answer.re * power, im: answer.im * power };
-    let allowed = Fixed::ratio(8 * larger, n) + Fixed::ratio(2 * i128::from(n), 0);
     series.closeness(answer - exact, larger, allowed * power)
 }
 
-/// 2^(F+k)·i^q·exp(answer) less the point, against 3M/2^N.
-pub fn log_closeness(input: logarithm::Input, figures: Figures, width: Width) -> Closeness {
-    let n = input.n as u32;
+/// 2^(F+k)·i^q·exp(answer) less the point, against 3M/2^N; with the remainder,
+/// 2^(F+k)·i^q·exp(answer)·(1 + remainder) against (10N + 3)·M/2^F.
+pub fn log_closeness(
+    input: logarithm::Input,
+    figures: Figures,
+    claim: Claim,
+    width: Width,
+) -> Closeness {
+    let (n, f) = (i128::from(input.n), width.fraction_bits);
     let larger = input.point().larger_part();
-    let power = i64::from(width.fraction_bits) + figures.binary_exponent;
-    let factor = point(1 << power, 0).turned(figures.quadrant);
-    let answer = point(figures.x.into(), figures.y.into());
-    let exact = whole(factor) * NEAR.sum(scaled(answer, width));
-    NEAR.closeness(exact - whole(input.point()), larger, Fixed::ratio(3 * larger, n))
+    let factor = point(1 << (i64::from(f) + figures.binary_exponent), 0).turned(figures.quadrant);
+    let exact = whole(factor) * NEAR.sum(scaled(figures.parts(), width));
+    let (exact, allowed) = match claim {
+        Column => (exact, Fixed::ratio(3 * larger, n as u32)),
+        WithRemainder => (
+            exact * (Complex::ONE + scaled(figures.remainder(), width)),
+            Fixed::ratio((10 * n + 3) * larger, f),
+        ),
+    };
+    NEAR.closeness(exact - whole(input.point()), larger, allowed)
 }
 
 /// 2^k for a k of EXP.

@@ -90,7 +90,7 @@ const NOT_RISING: [&[(&str, &str)]; 9] = [
 pub fn not_rising() -> Vec<(Vec<u8>, Vec<u8>)> {
     let written = |text: &str| {
         let text = text.replace("GOOD", "EXP|40|0|0|281474976710656|0");
-        tabs(&text.replace("DONE", "EXP|40|281474976710656|0|0|2128"))
+        tabs(&text.replace("DONE", "EXP|40|281474976710656|0|0|0|0|2128"))
     };
     let sheet = |lines: &&[(&str, &str)]| {
         let (asked, answers): (Vec<_>, Vec<_>) = lines.iter().copied().unzip();

@@ -1,6 +1,7 @@
-//! The edges and limits of 01 and of 02, E5 in their own numbers, for any implementation to be
-//! held to.
+//! The edges and limits of 01 and of 02, E5 and E7 in their own numbers, for any implementation to
+//! be held to.
 
+use crate::answer::Record;
 use crate::exponential::Input as Exp;
 use crate::logarithm::Input as Log;
 use crate::point::{point, Digit};
@@ -100,16 +101,25 @@ pub fn log_refusals() -> Vec<(Log, i64)> {
     cases
 }
 
-/// Whole records of EXP that need no steps: start zero; the exponent nought, with a column that
-/// comes out even and with M a unit less and more.
-pub fn exp_records() -> Vec<(Exp, [i64; 6])> {
-    let mut cases = vec![(EXP, [0, ONE, 0, 0, 0, 2128])];
+/// Start zero: answer zero, column 2N, and the remainder that any other start has.
+pub fn exp_of_zero() -> Vec<Exp> {
+    let mut cases = Vec::new();
     for n in 1..=40 {
         for ex in [EX_LEAST, 0, EX_GREATEST] {
             for ey in [-EY_GREATEST, -1, 0, EY_GREATEST] {
-                cases.push((Exp { n, ex, ey, sx: 0, sy: 0 }, [0, 0, 0, 0, 0, 2 * n]));
+                cases.push(Exp { n, ex, ey, sx: 0, sy: 0 });
             }
         }
+    }
+    cases
+}
+
+/// Whole records of EXP that need no steps: the exponent nought, of which nothing is left, with a
+/// column that comes out even and with M a unit less and more; start zero among them.
+pub fn exp_records() -> Vec<(Exp, Record)> {
+    let mut cases = vec![(EXP, [0, ONE, 0, 0, 0, 2128, 0, 0])];
+    for n in 1..=40 {
+        cases.push((Exp { n, sx: 0, ..EXP }, [0, 0, 0, 0, 0, 2 * n, 0, 0]));
         let even = 1 << n;
         for (m, share) in [
             (even - 1, 8 - 8 / even),
@@ -118,7 +128,7 @@ pub fn exp_records() -> Vec<(Exp, [i64; 6])> {
             (MAX_PART, 8 * (MAX_PART >> n)),
         ] {
             for (sx, sy) in [(m, 0), (-m, 1), (1, m), (0, -m)] {
-                cases.push((Exp { n, sx, sy, ..EXP }, [0, sx, sy, 0, 0, share + 2 * n]));
+                cases.push((Exp { n, sx, sy, ..EXP }, [0, sx, sy, 0, 0, share + 2 * n, 0, 0]));
             }
         }
     }
@@ -142,7 +152,7 @@ fn multiplied(eighths: i64, x: i64, y: i64) -> [i64; 2] {
 /// Whole records of EXP outside the rectangle that need no steps: exponents of p eighths of a turn
 /// and k doublings, which the reduction brings to nought. The answer is the multiplied start, whose
 /// larger part reaches 2^59.
-pub fn far_exp_records() -> Vec<(Exp, [i64; 6])> {
+pub fn far_exp_records() -> Vec<(Exp, Record)> {
     let starts = [(ONE, 0), (0, 0), (3, -5), (MAX_PART, MAX_PART), (-MAX_PART, MAX_PART)];
     let mut cases = Vec::new();
     for (p, k) in (-10i64..=10).flat_map(|p| (-12..=12).map(move |k| (p, k))) {
@@ -155,7 +165,7 @@ pub fn far_exp_records() -> Vec<(Exp, [i64; 6])> {
         {
             let [x, y] = multiplied(p, sx, sy);
             let share = (8 * x.abs().max(y.abs()) + (1 << n) - 1) >> n;
-            cases.push((Exp { n, ex, ey, sx, sy }, [0, x, y, k, 0, share + 2 * n]));
+            cases.push((Exp { n, ex, ey, sx, sy }, [0, x, y, k, 0, share + 2 * n, 0, 0]));
         }
     }
     cases
@@ -184,6 +194,35 @@ pub fn exp_scales() -> Vec<(Exp, i64)> {
         cases.extend([(at(-MAX_EXPONENT, ey), -12), (at(MAX_EXPONENT, ey), 12)]);
     }
     cases
+}
+
+/// Remainders of EXP after one step, by hand: the entry -H of the digit -1, and a unit beside it;
+/// next to the thresholds, where the step takes nothing from the exponent or just that entry; and
+/// what the reduction leaves past the rectangle.
+pub fn exp_remainders() -> Vec<(Exp, [i64; 2])> {
+    [
+        ([-H - 1, 0], [-1, 0]),
+        ([-H, 0], [0, 0]),
+        ([1 - H, 0], [1, 0]),
+        ([-ONE / 4 - 1, 0], [H - ONE / 4 - 1, 0]),
+        ([-ONE / 4, 0], [-ONE / 4, 0]),
+        ([3 * ONE / 16 - 1, 0], [3 * ONE / 16 - 1, 0]),
+        ([0, -3 * ONE / 8], [0, -3 * ONE / 8]),
+        ([0, 13 * ONE / 32 - 1], [0, 13 * ONE / 32 - 1]),
+        ([EX_GREATEST + 1, 0], [EX_GREATEST + 1 - H, 0]),
+        ([7, 2 * Q - 5], [7, -5]),
+        ([R + 7, -Q - 5], [7, -5]),
+        ([R - 3 * H, 3 * Q + 1], [0, 1]),
+    ]
+    .map(|([ex, ey], remainder)| (Exp { n: 1, ex, ey, ..EXP }, remainder))
+    .to_vec()
+}
+
+/// Remainders of LOG of one, by hand: (120 - 7i)/128 after the digits 1, -1+i and 0.
+pub fn log_one_remainders() -> Vec<(Log, [i64; 2])> {
+    [(3, [56, -63], 10), (4, [-121, 135], 14), (5, [-121, 135], 14)]
+        .map(|(n, parts, bits)| (Log { n, ..LOG }, parts.map(|part| part * (ONE >> bits))))
+        .to_vec()
 }
 
 /// The columns of LOG, even ones and with M a unit less and more.

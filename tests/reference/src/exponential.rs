@@ -1,4 +1,4 @@
-//! EXP of 01, with the exponents up to eight of 02, E5.
+//! EXP of 01, with the exponents up to eight of 02, E5 and the remainder of 02, E7.
 
 use crate::answer::{Answer, Figures, Refusal};
 use crate::point::{ceiling_quotient, nearest_quotient, point, word, Digit, Point, Quotient};
@@ -188,5 +188,7 @@ pub fn figures(n: u32, reduction: Reduction, width: Width) -> Figures {
         binary_exponent,
         quadrant: 0,
         error_bound: word(ceiling_quotient(8 * start.larger_part(), n) + 2 * i128::from(n)),
+        remainder_x: word(end.exponent.x),
+        remainder_y: word(end.exponent.y),
     }
 }

@@ -1,4 +1,4 @@
-//! LOG of 01.
+//! LOG of 01, with the remainder of 02, E7.
 
 use crate::answer::{Answer, Figures, Refusal};
 use crate::point::{ceiling_quotient, floor_quotient, point, word, Digit, Point};
@@ -149,11 +149,14 @@ pub fn log(input: Input, width: Width) -> Answer {
         .take((n + 1 - FIRST_STEP) as usize)
         .last()
         .expect("N is at least 3");
+    let remainder = end.point - point(width.one(), 0);
     Ok(Figures {
         x: word(end.answer.x),
         y: word(end.answer.y),
         binary_exponent: reduction.binary_exponent.into(),
         quadrant: reduction.quadrant,
         error_bound: word(ceiling_quotient(3 * input.point().larger_part(), n)),
+        remainder_x: word(remainder.x),
+        remainder_y: word(remainder.y),
     })
 }

@@ -1,5 +1,5 @@
-//! Sheets of 01 whose numbers must rise (02, E3) and whose EXP lines have a k (02, E5), from
-//! bytes to bytes.
+//! Sheets of 01 whose numbers must rise (02, E3), whose EXP lines have a k (02, E5) and whose
+//! answers have a remainder (02, E7), from bytes to bytes.
 
 use crate::answer::Refusal;
 use crate::width::Width;
@@ -82,17 +82,16 @@ fn answer_behind(serials: &mut BTreeSet<i64>, line: &[u8], width: Width) -> (i64
 }
 
 fn answer_text(Line { serial, call }: Line, width: Width) -> Result<String, Refusal> {
-    Ok(match call {
-        Call::Exp(input) => {
-            let f = exponential::exp(input, width)?;
-            joined(serial, "EXP", &[input.n, f.x, f.y, f.binary_exponent, f.error_bound])
-        }
-        Call::Log(input) => {
-            let f = logarithm::log(input, width)?;
-            let figures = [input.n, f.x, f.y, f.binary_exponent, f.quadrant, f.error_bound];
-            joined(serial, "LOG", &figures)
-        }
-    })
+    let (kind, n, f) = match call {
+        Call::Exp(input) => ("EXP", input.n, exponential::exp(input, width)?),
+        Call::Log(input) => ("LOG", input.n, logarithm::log(input, width)?),
+    };
+    let mut numbers = vec![n, f.x, f.y, f.remainder_x, f.remainder_y, f.binary_exponent];
+    if let Call::Log(_) = call {
+        numbers.push(f.quadrant);
+    }
+    numbers.push(f.error_bound);
+    Ok(joined(serial, kind, &numbers))
 }
 
 /// 01, "A line into a lent buffer": the refusal number or 0 and the bytes written.

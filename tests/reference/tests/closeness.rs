@@ -1,6 +1,8 @@
-//! Demand 3 and the convergence that 01 and 02, E5 state, on random and edge inputs at every width.
+//! Demand 3 and the convergence that 01 and 02, E5 and E7 state, on random and edge inputs at every
+//! width.
 
-use reference::answer::Figures;
+use reference::answer::{Answer, Figures};
+use reference::closeness::Claim::{self, Column, WithRemainder};
 use reference::closeness::{exp_closeness, log_closeness, FAR, NEAR};
 use reference::exponential::{self, exp, figures, in_rectangle, rectangle, CUT};
 use reference::fixed::{Complex, Fixed};
@@ -11,8 +13,7 @@ use reference::width::WIDTHS;
 
 const SAMPLES: usize = 60_000;
 
-#[test]
-fn exp_is_close() {
+fn check_exp(claim: Claim) {
     for width in WIDTHS {
         let mut random = Random::new(1);
         // Inside the rectangle and outside.
@@ -20,14 +21,25 @@ fn exp_is_close() {
         for _ in 0..SAMPLES {
             let input = exp_input(&mut random, width);
             if let Ok(figures) = exp(input, width) {
-                let closeness = exp_closeness(input, figures, width);
+                let closeness = exp_closeness(input, figures, claim, width);
                 assert!(closeness.holds(), "{input:?}");
                 let worst = &mut worst[usize::from(!in_rectangle(input.exponent(), width))];
                 *worst = f64::max(*worst, closeness.fraction());
             }
         }
-        println!("EXP, width {}: at most {worst:.3?} of what is allowed", width.fraction_bits);
+        let bits = width.fraction_bits;
+        println!("EXP, {claim:?}, width {bits}: at most {worst:.3?} of what is allowed");
     }
+}
+
+#[test]
+fn exp_is_close() {
+    check_exp(Column);
+}
+
+#[test]
+fn exp_is_close_with_its_remainder() {
+    check_exp(WithRemainder);
 }
 
 /// Sums of more terms stay within what `closeness` adds for them, at the corners that are furthest
@@ -78,21 +90,31 @@ fn seam() {
     }
 }
 
-#[test]
-fn log_is_close() {
+fn check_log(claim: Claim) {
     for width in WIDTHS {
         let mut random = Random::new(2);
         let mut worst = 0.0;
         for _ in 0..SAMPLES {
             let input = log_input(&mut random, width);
             if let Ok(figures) = log(input, width) {
-                let closeness = log_closeness(input, figures, width);
+                let closeness = log_closeness(input, figures, claim, width);
                 assert!(closeness.holds(), "{input:?}");
                 worst = f64::max(worst, closeness.fraction());
             }
         }
-        println!("LOG, width {}: at most {worst:.3} of what is allowed", width.fraction_bits);
+        let bits = width.fraction_bits;
+        println!("LOG, {claim:?}, width {bits}: at most {worst:.3} of what is allowed");
     }
+}
+
+#[test]
+fn log_is_close() {
+    check_log(Column);
+}
+
+#[test]
+fn log_is_close_with_its_remainder() {
+    check_log(WithRemainder);
 }
 
 /// A wrong answer must not pass: what is allowed is narrow.
@@ -104,14 +126,61 @@ fn far_answers_are_not_close() {
             let input = exp_input(&mut random, width);
             if let Ok(mut figures) = exp(input, width) {
                 figures.y += 2 * figures.error_bound;
-                assert!(!exp_closeness(input, figures, width).holds(), "{input:?}");
+                assert!(!exp_closeness(input, figures, Column, width).holds(), "{input:?}");
             }
             let input = log_input(&mut random, width);
             if let Ok(mut figures) = log(input, width) {
                 figures.quadrant += 2;
-                assert!(!log_closeness(input, figures, width).holds(), "{input:?}");
+                assert!(!log_closeness(input, figures, Column, width).holds(), "{input:?}");
             }
         }
+    }
+}
+
+/// Nor a wrong remainder, where the start is large: a part of it that is off by some hundred units
+/// shows, whatever N is.
+#[test]
+fn other_remainders_are_not_close() {
+    for width in WIDTHS {
+        let mut random = Random::new(21);
+        for _ in 0..1000 {
+            let input = exp_input(&mut random, width);
+            if let Ok(mut figures) = exp(input, width) {
+                figures.remainder_x -= 8 * (14 * input.n + 54);
+                let closeness = exp_closeness(input, figures, WithRemainder, width);
+                let large = input.start().larger_part() >= width.one();
+                assert!(!large || !closeness.holds(), "{input:?}");
+            }
+            let input = log_input(&mut random, width);
+            if let Ok(mut figures) = log(input, width) {
+                figures.remainder_y += 3 * (10 * input.n + 3);
+                let closeness = log_closeness(input, figures, WithRemainder, width);
+                assert!(!closeness.holds(), "{input:?}");
+            }
+        }
+    }
+}
+
+/// 02, E7: "every remainder part is below 1/2^N in size".
+#[test]
+fn remainders_are_small() {
+    for width in WIDTHS {
+        let mut random = Random::new(22);
+        let mut worst = [0.0; 2];
+        let mut check = |place: usize, n: i64, answer: Answer| {
+            if let Ok(figures) = answer {
+                let size = figures.remainder().larger_part() << n;
+                assert!(size < width.one(), "N = {n}: {figures:?}");
+                worst[place] = f64::max(worst[place], size as f64 / width.one() as f64);
+            }
+        };
+        for _ in 0..SAMPLES {
+            let input = exp_input(&mut random, width);
+            check(0, input.n, exp(input, width));
+            let input = log_input(&mut random, width);
+            check(1, input.n, log(input, width));
+        }
+        println!("width {}: EXP and LOG leave at most {worst:.3?} of it", width.fraction_bits);
     }
 }
 

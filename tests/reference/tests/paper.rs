@@ -1,10 +1,11 @@
-//! The whole run and the edges of 01, with those of 02, E5.
+//! The whole run and the edges of 01, with those of 02, E5 and E7.
 
 use reference::answer::record;
 use reference::damage::tabs;
 use reference::edges::{
-    exp_records, exp_refusals, exp_scales, far_exp_records, figure_digits, log_bounds,
-    log_one_digits, log_reductions, log_refusals, EXP, EX_GREATEST, H, LOG, Q, R,
+    exp_of_zero, exp_records, exp_refusals, exp_remainders, exp_scales, far_exp_records,
+    figure_digits, log_bounds, log_one_digits, log_one_remainders, log_reductions, log_refusals,
+    EXP, EX_GREATEST, H, LOG, ONE, Q, R,
 };
 use reference::exponential::{exp, steps, Input as Exp, Reduction, CUT};
 use reference::figure::EXPONENT;
@@ -17,7 +18,7 @@ use reference::width::WIDTH_48 as W;
 #[test]
 fn whole_run() {
     let input = tabs("1|EXP|40|0|0|281474976710656|0\n2|LOG|40|0|0\n3|EXP|0|0|0|0|0\n");
-    let output = tabs("BKM|48\n1|EXP|40|281474976710656|0|0|2128\n2|REF|4\n3|REF|1\n");
+    let output = tabs("BKM|48\n1|EXP|40|281474976710656|0|0|0|0|2128\n2|REF|4\n3|REF|1\n");
     assert_eq!(answer_sheet(&input, W), output);
     assert_eq!(answer_sheet(&input[..input.len() - 1], W), output);
 }
@@ -27,7 +28,7 @@ fn limits_of_exp() {
     for (input, refusal) in exp_refusals() {
         let numbers = record(exp(input, W));
         assert_eq!(numbers[0], refusal, "{input:?}");
-        assert!(refusal == 0 || numbers[1..] == [0; 5], "{input:?}");
+        assert!(refusal == 0 || numbers[1..] == [0; 7], "{input:?}");
     }
 }
 
@@ -36,7 +37,7 @@ fn limits_of_log() {
     for (input, refusal) in log_refusals() {
         let numbers = record(log(input, W));
         assert_eq!(numbers[0], refusal, "{input:?}");
-        assert!(refusal == 0 || numbers[1..] == [0; 5], "{input:?}");
+        assert!(refusal == 0 || numbers[1..] == [0; 7], "{input:?}");
     }
 }
 
@@ -44,6 +45,25 @@ fn limits_of_log() {
 fn records_of_exp() {
     for (input, wanted) in exp_records().into_iter().chain(far_exp_records()) {
         assert_eq!(record(exp(input, W)), wanted, "{input:?}");
+    }
+}
+
+#[test]
+fn exp_of_start_zero() {
+    for input in exp_of_zero() {
+        let (zero, other) = (record(exp(input, W)), record(exp(Exp { sx: ONE, ..input }, W)));
+        assert_eq!(zero[..6], [0, 0, 0, 0, 0, 2 * input.n], "{input:?}");
+        assert_eq!(zero[6..], other[6..], "{input:?}");
+    }
+}
+
+#[test]
+fn remainders() {
+    for (input, remainder) in exp_remainders() {
+        assert_eq!(record(exp(input, W))[6..], remainder, "{input:?}");
+    }
+    for (input, remainder) in log_one_remainders() {
+        assert_eq!(record(log(input, W))[6..], remainder, "{input:?}");
     }
 }
 

@@ -75,12 +75,12 @@ fn lines_carry_the_figures() {
             Call::Exp(input) => ("EXP", input.n, record(exp(input, W))),
             Call::Log(input) => ("LOG", input.n, record(log(input, W))),
         };
-        let [number, x, y, k, q, bound] = figures;
+        let [number, x, y, k, q, bound, rx, ry] = figures;
         let serial = parsed.serial;
         let wanted = match kind {
             _ if number != 0 => format!("{serial}|REF|{number}\n"),
-            "EXP" => format!("{serial}|EXP|{n}|{x}|{y}|{k}|{bound}\n"),
-            _ => format!("{serial}|LOG|{n}|{x}|{y}|{k}|{q}|{bound}\n"),
+            "EXP" => format!("{serial}|EXP|{n}|{x}|{y}|{rx}|{ry}|{k}|{bound}\n"),
+            _ => format!("{serial}|LOG|{n}|{x}|{y}|{rx}|{ry}|{k}|{q}|{bound}\n"),
         };
         assert_eq!((refusal, answer), (number, tabs(&wanted)));
     }

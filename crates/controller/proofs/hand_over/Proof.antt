@@ -5,12 +5,13 @@ use borrow.Author.Tests.{lt-ltb, le-ltb}
 use lib.ListN.{length}
 use borrow.Author.Needs.{needs}
 use Rattle.word.proofs.Fits.{back, sfits-mag}
-use Rattle.controller.proofs.Call.{six-front}
+use Rattle.controller.specs.Record.{record-room}
+use Rattle.controller.proofs.Call.{record-front}
 use Rattle.controller.proofs.hand_over.Statement.{statement}
 use Rattle.controller.proofs.hand_over.Tie as tie
 
 returns : tie.Need-returns
-returns c = rw (lt-ltb (length (c .before .before .args .out .now)) 48 (omega arith)) (refl, refl)
+returns c = rw (lt-ltb (length (c .before .before .args .out .now)) record-room (omega arith)) (refl, refl)
 
 record-requires : tie.Need-record-requires
 record-requires c κs = search needs
@@ -31,10 +32,10 @@ returns-2 : tie.Need-returns-2
 returns-2 c =
     let p = c .before .before .before in
     let a = p .before .before .before in
-    let n : length (a .«record» .result) ≡ 6 = search needs in
+    let n : length (a .«record» .result) ≡ 8 = search needs in
     let out = a .before .before .before .args .out .now in
     rw (le-ltb _ _ (a .before .if1 .left), ← a .«record» .ensures)
-    (back (sfits-mag _ (c .result .given)), six-front out (a .«record» .result) n (a .before .if1 .left) (p .put-words .ensures))
+    (back (sfits-mag _ (c .result .given)), record-front out (a .«record» .result) n (a .before .if1 .left) (p .put-words .ensures))
 
 pub hand-over-spec : {M : Type 1} → statement M
 hand-over-spec =

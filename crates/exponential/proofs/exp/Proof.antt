@@ -134,21 +134,33 @@ module _ (c : tie.After-reduce) where
 run-requires : tie.Need-run-requires
 run-requires c κs = let r = c .before .before in simp (back, start r .fits .n) (fits r)
 
+-- the end of the steps, once its parts are read
+abbrev ended : tie.After-struct-told5 → tie.After-run
+ended c = c .before .before .before .before .before .before .before
+
 error-bound-requires : tie.Need-error-bound-requires
-error-bound-requires c κs = let r = c .before .before .before .before .before .before .before in simp (back, start r .fits .n) (few r, small r)
+error-bound-requires c κs = let r = ended c .before .before .before in simp (back, start r .fits .n) (few r, small r)
 
 returns-4 : tie.Need-returns-4
 returns-4 c =
-    let end = c .before .before .before .before .before in
+    let t5 = c .before in
+    let t4 = t5 .before in
+    let t3 = t4 .before in
+    let t2 = t3 .before in
+    let t1 = t2 .before in
+    let end = ended t5 in
     let r = end .before .before .before in
     let a = start r .args in
     let given-figures : figuresFrom 48 stepTable (N r) (r .reduce .result) ≡ figures 48 stepTable constants48 (N r) (e r) (s r) =
     ap (figuresFrom 48 stepTable (N r)) (given r) in
     let all : N r - 0 ≡ N r = omega arith in
-    let value = ap (λ (x : State). x .point) (rw all at (simp (back, start r .fits .n) at (end .run .ensures))) in
-    let told = c .before .before in
-    let x = back (sfits-mag (end .run .result .point .x) (told .before .struct-told .given .0 .1)) ∙ ap (λ (p : Point). p .x) value in
-    let y = back (sfits-mag (end .run .result .point .y) (told .struct-told2 .given .1 .0 .1)) ∙ ap (λ (p : Point). p .y) value in
+    let state = rw all at (simp (back, start r .fits .n) at (end .run .ensures)) in
+    let value = ap (λ (x : State). x .point) state in
+    let left = ap (λ (x : State). x .sum) state in
+    let x = back (sfits-mag (end .run .result .point .x) (t1 .struct-told .given .0 .1)) ∙ ap (λ (p : Point). p .x) value in
+    let y = back (sfits-mag (end .run .result .point .y) (t2 .struct-told2 .given .1 .0 .1)) ∙ ap (λ (p : Point). p .y) value in
+    let left-x = back (sfits-mag (end .run .result .sum .x) (t3 .struct-told3 .given .0 .1)) ∙ ap (λ (p : Point). p .x) left in
+    let left-y = back (sfits-mag (end .run .result .sum .y) (t4 .struct-told4 .given .1 .0 .1)) ∙ ap (λ (p : Point). p .y) left in
     let bound = back (sfits-mag (c .error-bound .result) (c .error-bound .ok)) ∙ (simp (back, start r .fits .n) at (c .error-bound .ensures)) in
     settled (a .n) (a .exponent .x) (a .exponent .y) (a .start .x) (a .start .y)
     (answered 48 stepTable constants48 (a .n) (e r) (s r) (passed r)
@@ -157,6 +169,7 @@ returns-4 c =
       «binary_exponent» = back (exponent-fits r) i;
       quadrant = pos 0;
       «error_bound» = bound i;
+      remainder = record { x = left-x i; y = left-y i };
     }))))
 
 pub exp-spec : {M : Type 1} → statement M

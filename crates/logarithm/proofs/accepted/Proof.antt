@@ -6,10 +6,12 @@ use lib.Dec.{lit≤}
 use lib.IntN.{pos, natAbs, _-ℤ_}
 use mir.Syntax.{w64}
 use mir.Val.{SFits, toZ, ofZ}
+use Rattle.algebra.specs.Gauss.{_-ᵍ_, two}
 use Rattle.algebra.specs.Order.{_⩽_}
+use Rattle.algebra.specs.Size.{Parts}
 use Rattle.word.proofs.Fits.{back, sfits-mag, word-pos}
 use Rattle.point.specs.declared.Point.{Point}
-use Rattle.point.specs.Point.{gauss, point}
+use Rattle.point.specs.Point.{gauss, point, one}
 use Rattle.table_numbers.specs.Table.{stepTable, reciprocalTable}
 use Rattle.tables.proofs.Promises.{step-promise, reciprocal-promise}
 use Rattle.iteration.specs.declared.State.{State}
@@ -48,13 +50,17 @@ ran : (c : tie.After-run) → let s = start (c .before .before .before) .args in
     c .run .result ≡ ended 48 stepTable reciprocalTable (s .n) (turned (gauss (s .p)))
 ran c = c .run .ensures ∙ ap (run 48 stepTable Log 2 (start (c .before .before .before) .args .n - 2)) (begun-is (c .before))
 
-abbrev lengthened : tie.After-struct-told4 → tie.After-bit-length
-lengthened c = c .before .before .before .before .before
+-- the end of the steps, once the parts of the sum are read
+abbrev last : tie.After-struct-told4 → tie.After-run
+last c = c .before .before .before .before
 
-word-is : (c : tie.After-struct-told4) → toZ w64 (lengthened c .bit-length .result) ≡ pos (lengthened c .bit-length .result)
+abbrev lengthened : tie.After-less-one → tie.After-bit-length
+lengthened c = last (c .before) .before .before
+
+word-is : (c : tie.After-less-one) → toZ w64 (lengthened c .bit-length .result) ≡ pos (lengthened c .bit-length .result)
 word-is c = word-pos (lengthened c .bit-length .result) (omega (arith, scale-length (scalable (lengthened c))))
 
-exponent-fit : (c : tie.After-struct-told4) → SFits w64 (toZ w64 (lengthened c .bit-length .result) -ℤ pos 48)
+exponent-fit : (c : tie.After-less-one) → SFits w64 (toZ w64 (lengthened c .bit-length .result) -ℤ pos 48)
 exponent-fit c = subst (λ b. SFits w64 (b -ℤ pos 48)) (sym (word-is c)) (exponent-fits (scalable (lengthened c)) (lit≤ tt))
 
 -- ---- the contract
@@ -62,20 +68,22 @@ returns : tie.Need-returns
 unfolding binary-exponent bit-length
 returns c =
     let u = c .before in
-    let r = u .before .before .before in
+    let t4 = u .before in
+    let r = last t4 in
     let l = lengthened u in
     let t = l .before in
     let s = start t in
     let n = s .args .n in
     let sum = ap (λ (e : State). e .sum) (ran r) in
-    let x = back (sfits-mag (r .run .result .sum .x) (u .before .struct-told3 .given .0 .1)) ∙ ap (λ (p : Point). p .x) sum in
-    let y = back (sfits-mag (r .run .result .sum .y) (u .struct-told4 .given .1 .0 .1)) ∙ ap (λ (p : Point). p .y) sum in
+    let x = back (sfits-mag (r .run .result .sum .x) (t4 .before .struct-told3 .given .0 .1)) ∙ ap (λ (p : Point). p .x) sum in
+    let y = back (sfits-mag (r .run .result .sum .y) (t4 .struct-told4 .given .1 .0 .1)) ∙ ap (λ (p : Point). p .y) sum in
     let k = back (exponent-fit u) ∙ (ap (λ b. b -ℤ pos 48) (word-is u ∙ ap pos (length-is l))) in
     let q = back (sfits-mag (t .before .before .before .turned .result .quadrant) (t .before .struct-told .given .1 .0 .1))
     ∙ ap (λ (e : Turn). e .quadrant) (t .before .before .before .turned .ensures) in
     let b = back (sfits-mag (c .error-bound .result) (c .error-bound .ok))
     ∙ (c .error-bound .ensures ∙ (ap (boundAt n) (x-is t) ∙ bound-made (lit≤ tt) (s .pre))) in
-    λ i. record { value = record { x = x i; y = y i }; «binary_exponent» = k i; quadrant = q i; «error_bound» = b i }
+    let left = u .less-one .ensures ∙ ap (λ (e : State). point (gauss (e .point) -ᵍ one 48)) (ran r) in
+    λ i. record { value = record { x = x i; y = y i }; «binary_exponent» = k i; quadrant = q i; «error_bound» = b i; remainder = left i }
 
 -- ---- the needs
 turned-requires : tie.Need-turned-requires
@@ -87,11 +95,17 @@ bit-length-requires c κs = subst (λ x. pos 1 ⩽ x) (sym (x-is c)) (turned-pos
 begun-requires : tie.Need-begun-requires
 begun-requires c κs = scalable c
 
+fits : (s : tie.Start) → Fits 48 stepTable Log 2 (s .args .n) (begun 48 reciprocalTable (turned (gauss (s .args .p))))
+fits s = run-ok (lit≤ tt) (s .pre) (lit≤ tt) stepTable reciprocalTable step-promise reciprocal-promise
+
 run-requires : tie.Need-run-requires
-run-requires c κs =
-    let s = start (c .before .before) in
-    subst (Fits 48 stepTable Log 2 (s .args .n)) (sym (begun-is c))
-    (run-ok (lit≤ tt) (s .pre) (lit≤ tt) stepTable reciprocalTable step-promise reciprocal-promise)
+run-requires c κs = let s = start (c .before .before) in subst (Fits 48 stepTable Log 2 (s .args .n)) (sym (begun-is c)) (fits s)
+
+less-one-requires : tie.Need-less-one-requires
+less-one-requires c κs =
+    let r = last c in
+    let s = start (r .before .before .before) in
+    subst (λ (e : State). Parts (gauss (e .point)) (two 61)) (sym (ran r)) (fits s .small (s .args .n - 2) (omega arith) .point)
 
 cast-binary-exponent : tie.Need-cast-binary-exponent
 cast-binary-exponent c = record { sfits = omega (arith, scale-length (scalable (lengthened c))) }
@@ -104,5 +118,5 @@ error-bound-requires c κs = let t = lengthened c .before in subst (BoundPre 48 
     (bound-ok (lit≤ tt) (start t .pre))
 
 pub accepted-spec : {M : Type 1} → statement M
-accepted-spec = tie.close (tie.spec turned-requires bit-length-requires begun-requires run-requires
+accepted-spec = tie.close (tie.spec turned-requires bit-length-requires begun-requires run-requires less-one-requires
     cast-binary-exponent sub-binary-exponent error-bound-requires returns)

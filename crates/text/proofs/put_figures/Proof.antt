@@ -27,7 +27,9 @@ returns : tie.Need-returns
 unfolding recordOf
 returns c =
     let p = c .before .before in
-    let t25 = p .before .before .before .before in
+    let t31 = p .before .before .before .before in
+    let t28 = t31 .before in
+    let t25 = t28 .before in
     let t22 = t25 .before in
     let t19 = t22 .before in
     let t16 = t19 .before in
@@ -41,20 +43,24 @@ returns c =
       back (s .fits .n),
       held r 1 (t16 .t16 .given),
       held r 2 (t19 .t19 .given),
-      held r 3 (t22 .t22 .given),
-      held r 5 (t25 .t25 .given),
+      held r 6 (t22 .t22 .given),
+      held r 7 (t25 .t25 .given),
+      held r 3 (t28 .t28 .given),
+      held r 5 (t31 .t31 .given),
     ) at (p .put-line .ensures)))
 
 returns-2 : tie.Need-returns-2
 unfolding recordOf
 returns-2 c =
     let p = c .before .before in
-    let t46 = p .before .before .before .before in
+    let t58 = p .before .before .before .before in
+    let t55 = t58 .before in
+    let t52 = t55 .before in
+    let t49 = t52 .before in
+    let t46 = t49 .before in
     let t43 = t46 .before in
     let t40 = t43 .before in
-    let t37 = t40 .before in
-    let t34 = t37 .before in
-    let e = t34 .before in
+    let e = t40 .before in
     let r = e .before .before in
     let s = r .before .before in
     rw (e .enum-told2 .given .1)
@@ -62,11 +68,13 @@ returns-2 c =
     (rw (
       back (s .fits .serial),
       back (s .fits .n),
-      held r 1 (t34 .t34 .given),
-      held r 2 (t37 .t37 .given),
-      held r 3 (t40 .t40 .given),
-      held r 4 (t43 .t43 .given),
-      held r 5 (t46 .t46 .given),
+      held r 1 (t40 .t40 .given),
+      held r 2 (t43 .t43 .given),
+      held r 6 (t46 .t46 .given),
+      held r 7 (t49 .t49 .given),
+      held r 3 (t52 .t52 .given),
+      held r 4 (t55 .t55 .given),
+      held r 5 (t58 .t58 .given),
     ) at (p .put-line2 .ensures)))
 
 -- ---- the other needs
@@ -88,6 +96,12 @@ array-copy-out-t22 c = search needs
 array-copy-out-t25 : tie.Need-array-copy-out-t25
 array-copy-out-t25 c = search needs
 
+array-copy-out-t28 : tie.Need-array-copy-out-t28
+array-copy-out-t28 c = search needs
+
+array-copy-out-t31 : tie.Need-array-copy-out-t31
+array-copy-out-t31 c = search needs
+
 slice-aggregate-put-line : tie.Need-slice-aggregate-put-line
 slice-aggregate-put-line c = search needs
 
@@ -100,12 +114,6 @@ put-line-requires c κs = search needs
 enum-told-2 : tie.Need-enum-told-2
 enum-told-2 c = search needs
 
-array-copy-out-t34 : tie.Need-array-copy-out-t34
-array-copy-out-t34 c = search needs
-
-array-copy-out-t37 : tie.Need-array-copy-out-t37
-array-copy-out-t37 c = search needs
-
 array-copy-out-t40 : tie.Need-array-copy-out-t40
 array-copy-out-t40 c = search needs
 
@@ -114,6 +122,18 @@ array-copy-out-t43 c = search needs
 
 array-copy-out-t46 : tie.Need-array-copy-out-t46
 array-copy-out-t46 c = search needs
+
+array-copy-out-t49 : tie.Need-array-copy-out-t49
+array-copy-out-t49 c = search needs
+
+array-copy-out-t52 : tie.Need-array-copy-out-t52
+array-copy-out-t52 c = search needs
+
+array-copy-out-t55 : tie.Need-array-copy-out-t55
+array-copy-out-t55 c = search needs
+
+array-copy-out-t58 : tie.Need-array-copy-out-t58
+array-copy-out-t58 c = search needs
 
 slice-aggregate-put-line-3 : tie.Need-slice-aggregate-put-line-3
 slice-aggregate-put-line-3 c = search needs
@@ -140,15 +160,19 @@ put-figures-spec =
     array-copy-out-t19
     array-copy-out-t22
     array-copy-out-t25
+    array-copy-out-t28
+    array-copy-out-t31
     slice-aggregate-put-line
     slice-aggregate-put-line-2
     put-line-requires
     enum-told-2
-    array-copy-out-t34
-    array-copy-out-t37
     array-copy-out-t40
     array-copy-out-t43
     array-copy-out-t46
+    array-copy-out-t49
+    array-copy-out-t52
+    array-copy-out-t55
+    array-copy-out-t58
     slice-aggregate-put-line-3
     slice-aggregate-put-line-4
     put-line-requires-2
