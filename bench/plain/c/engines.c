@@ -1,5 +1,5 @@
-/* The engines. Right shifts of negative numbers keep the sign, as every compiler here has it. Half of 2^i
- * has the form that is the fastest in each. */
+/* The engines. Right shifts of negative numbers keep the sign, as every compiler here has it. The digits and
+ * half of 2^i have the form that is the fastest in each. */
 #include "engines.h"
 #include "tables.h"
 
@@ -113,7 +113,7 @@ struct answer engine_log(int64_t n, int64_t px, int64_t py) {
     int64_t answer_x = -log.re, answer_y = -log.im;
     for (int64_t i = 3; i <= n; i++) {
         int64_t half = (ONE / 2) >> i, u = x - ONE;
-        int64_t dx = (u <= -half) - (u >= half), dy = (y <= -half) - (y >= half);
+        int64_t dx = u >= half ? -1 : u <= -half, dy = y >= half ? -1 : y <= -half;
         struct entry entry = STEPS[i - 1][dx + 1][dy + 1];
         int64_t old_x = x, to_nearest = (INT64_C(1) << 62) >> (63 - i);
         x += (dx * x - dy * y + to_nearest) >> i;
