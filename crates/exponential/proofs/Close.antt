@@ -1,4 +1,5 @@
--- What is proved of the answer: when each is given, convergence, and that it is close, at the width 48 with no hypothesis left.
+-- What is proved of the answer: when each is given, convergence, that it is close and that what is left over is small, at the width 48 with
+-- no hypothesis left.
 use mathlib.Core.Path.{_≡_, sym, ap, subst}
 use mathlib.Core.Bool.{true, false, cond}
 use mathlib.Core.List.{[], _∷_}

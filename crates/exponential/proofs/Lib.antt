@@ -1,6 +1,5 @@
 -- Why EXP's answer is right.
---   Close            when each refusal is given; the answer is close, with no hypothesis left
---   Certificate      what is left of the exponent says how far off the answer is, but for the rounding
+--   Close            when each refusal is given; the answer is close, and what is left over small, with no hypothesis left
 --   Seam             the answer does not jump at the rectangle's edge by more than both error bounds
 --   Ranges           the ranges of the figures of every answer
 --   Bound            the error bound is the least whole number that it can be
@@ -31,7 +30,6 @@ pub mod Far
 pub mod Given
 pub mod Bound
 pub mod Close
-pub mod Certificate
 pub mod Seam
 pub mod Cases
 pub mod Fits

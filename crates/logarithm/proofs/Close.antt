@@ -1,4 +1,5 @@
--- What is proved of LOG's answer: its four cases, the ranges of its figures, convergence and remainder, and that it is close.
+-- What is proved of LOG's answer: its four cases, the ranges of its figures, convergence, that it is close and that what is left over is
+-- small.
 use mathlib.Core.Path.{_≡_, sym, _∙_, ap, ap₂, subst, refl}
 use mathlib.Core.Bool.{true, false, not, _&&_}
 use mathlib.Core.List.{[], _∷_}

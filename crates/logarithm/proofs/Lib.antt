@@ -1,6 +1,5 @@
 -- Why LOG's answer is right.
---   Close         when each refusal is given; convergence and remainder, the ranges of the figures, and that the answer is close
---   Certificate   what is left over says how far off the answer is, but for the rounding
+--   Close         when each refusal is given; convergence, the answer is close, and what is left over small
 --   Ranges        the ranges of the figures of every answer
 --   Bound         the error bound is the least whole number that it can be
 --
@@ -23,7 +22,6 @@ pub mod Convergence
 pub mod Together
 pub mod Error
 pub mod Close
-pub mod Certificate
 pub mod Bound
 pub mod Fits
 pub mod Ranges

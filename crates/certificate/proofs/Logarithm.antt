@@ -9,7 +9,7 @@ use lib.Dec.{lit≤}
 use lib.IntN.{ℤ, pos, natAbs, _+ℤ_, _*ℤ_}
 use Rattle.algebra.specs.Gauss.{𝔾, gi, ιᵍ, _+ᵍ_, _-ᵍ_, _*ᵍ_, two, twoᵍ}
 use Rattle.algebra.specs.Order.{_⩽_}
-use Rattle.algebra.specs.Size.{Within, Parts, abs, larger}
+use Rattle.algebra.specs.Size.{Within, Parts, larger}
 use Rattle.algebra.proofs.Gauss.{𝔾R, g-ι-mul}
 use Rattle.algebra.proofs.Reify.{ring!, reify, reifyᵍ}
 use Rattle.algebra.proofs.Order.{nonneg-mul, nonneg-pos, sub-nonneg}
@@ -21,21 +21,19 @@ use Rattle.algebra.proofs.Parts.{size-abs, parts-within, within-parts}
 use Rattle.series.specs.Series.{D, Sᵍ, Dᵍ, Dᶻ}
 use Rattle.point.specs.Point.{gauss, one}
 use Rattle.point.proofs.InLimits.{Counts, steps-say}
-use Rattle.answer.specs.declared.Figures.{Figures}
-use Rattle.answer.specs.declared.Answer.{Answer}
-use Rattle.answer.specs.declared.Answer.the-variants.{Answered, Refused}
 use Rattle.table_numbers.specs.Promise.{StepTable, ReciprocalTable}
 use Rattle.table_numbers.specs.Table.{stepTable, reciprocalTable}
 use Rattle.table_numbers.proofs.Promises.{StepPromise, ReciprocalPromise}
 use Rattle.tables.proofs.Promises.{step-promise, reciprocal-promise}
 use Rattle.iteration.proofs.Drift.{drift-a-step, Near}
 use Rattle.logarithm.specs.Reduction.{quadrant, turned, bit-length, binary-exponent, scaled, up, down}
 use Rattle.logarithm.specs.Answer.{i^, power, ended, figures, logAnswer}
 use Rattle.logarithm.specs.Code.{Cone, Accepted}
+use Rattle.certificate.specs.Logarithm.{miss, allowed, CertifiedAt, Certified}
 use Rattle.logarithm.proofs.Quadrant.{point-is, within-i, cone-pos, cone-parts}
 use Rattle.logarithm.proofs.Scale.{length-law, power-is, up-down, scaled-error, scaled-ranges, scaled-parts}
 use Rattle.logarithm.proofs.Error.{drifted, turned-error}
 use Rattle.logarithm.proofs.Close.{cone, M-is, answer-keeps}
 
 -- ---- as algebra: one is 256·H units, Z = 2^N, n = N; up and down scale by 2^−k, B is one times 2^k; x is M
 module _ (H Z n up down B δ P x : ℤ) (w w′ v Q g : 𝔾)
@@ -128,20 +126,6 @@ module _ (F : ℕ) (narrow : F ≤ 48) (steps : StepTable) (logs : ReciprocalTab
       a = drifted F narrow (F - 8) steps logs entries reciprocals T enough n few fits (omega arith) w cone
           (F - 8) (omega arith) (omega arith) (omega arith)
 
--- ---- the statement: both sides are multiplied by the divisors 2^F and D T
--- 2^(F+k)·i^q times the exponential of the answer, times one and what is left, less the given point
-abbrev pub left-miss : (F T : ℕ) (p : 𝔾) (f : Figures) → 𝔾
-left-miss F T p f = ιᵍ (power F (f .«binary_exponent»)) *ᵍ i^ (f .quadrant) *ᵍ Sᵍ (2 ^ F) T (gauss (f .value)) *ᵍ (one F +ᵍ gauss (f .remainder))
-    -ᵍ p *ᵍ Dᵍ (2 ^ F) T *ᵍ twoᵍ F
-
-abbrev pub left-allowed : (F N T : ℕ) (m : ℤ) → ℤ
-left-allowed F N T m = (pos 10 *ℤ pos N +ℤ pos 3) *ℤ m *ℤ Dᶻ (2 ^ F) T
-
--- is at most that in size in each part
-pub record CertifiedAt (F N T : ℕ) (p : 𝔾) (f : Figures) : Type 0 where
-  pub re : abs (left-miss F T p f .re) ⩽ left-allowed F N T (larger p)
-  pub im : abs (left-miss F T p f .im) ⩽ left-allowed F N T (larger p)
-
 module _ (F : ℕ) (wide : 11 ≤ F) (narrow : F ≤ 48) (steps : StepTable) (logs : ReciprocalTable) (entries : StepPromise F (F - 8) steps)
     (reciprocals : ReciprocalPromise F logs) where
   -- for every input that meets no refusal
@@ -163,8 +147,8 @@ module _ (F : ℕ) (wide : 11 ≤ F) (narrow : F ≤ 48) (steps : StepTable) (lo
       turn-back g v = ring! 𝔾R (q ∷ w ∷ Dᵍ (2 ^ F) T ∷ twoᵍ F ∷ ιᵍ (two (bit-length w)) ∷ g ∷ v ∷ one F ∷ []) (search reifyᵍ depth 20) tt
           ∙ ap₂ (λ h z. ιᵍ h *ᵍ q *ᵍ g *ᵍ (one F +ᵍ (v -ᵍ one F)) -ᵍ z *ᵍ Dᵍ (2 ^ F) T *ᵍ twoᵍ F) (sym (power-is F w)) (point-is p)
 
-      off : Parts (left-miss F T p (figures F steps logs (natAbs n) p)) (left-allowed F (natAbs n) T (larger p))
-      off = within-parts (subst (λ z. Within z (left-allowed F (natAbs n) T (larger p))) (turn-back _ _)
+      off : Parts (miss F T p (figures F steps logs (natAbs n) p)) (allowed F (natAbs n) T (larger p))
+      off = within-parts (subst (λ z. Within z (allowed F (natAbs n) T (larger p))) (turn-back _ _)
           (within-weaken (within-mul (within-i p)
           (turned-certified F narrow steps logs entries reciprocals T enough (natAbs n) (count .at-least) (omega (arith, count .at-most)) w
           (cone F wide a)))
@@ -172,10 +156,6 @@ module _ (F : ℕ) (wide : 11 ≤ F) (narrow : F ≤ 48) (steps : StepTable) (lo
           (ap (λ x. (pos 10 *ℤ pos (natAbs n) +ℤ pos 3) *ℤ x *ℤ Dᶻ (2 ^ F) T) (M-is F wide a) &≡ none) (search reify depth 20) tt)))
 
 -- THE CERTIFICATE, for all inputs of the call
-abbrev pub Certified : ℤ → ℤ → ℤ → Answer → Type 0
-Certified n x y (Answered f) = (T : ℕ) → 24 ≤ T → CertifiedAt 48 (natAbs n) T (gi x y) f
-Certified n x y (Refused r) = Unit {0}
-
 pub log-certified : (n x y : ℤ) → Certified n x y (logAnswer n x y)
 unfolding logAnswer
 log-certified n x y = answer-keeps 48 stepTable reciprocalTable n (gi x y) (Certified n x y) (λ r. tt)

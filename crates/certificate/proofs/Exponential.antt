@@ -9,7 +9,7 @@ use native.Mathlib.Omega.{arith}
 use lib.IntN.{ℤ, pos, natAbs, _+ℤ_, _-ℤ_, _*ℤ_}
 use Rattle.algebra.specs.Gauss.{𝔾, gi, ιᵍ, _-ᵍ_, _*ᵍ_, two, twoᵍ}
 use Rattle.algebra.specs.Order.{_⩽_}
-use Rattle.algebra.specs.Size.{abs, Within, Parts, larger}
+use Rattle.algebra.specs.Size.{Within, Parts, larger}
 use Rattle.algebra.proofs.Gauss.{𝔾R}
 use Rattle.algebra.proofs.Reify.{ring!, reify, reifyᵍ}
 use Rattle.algebra.proofs.Order.{nonneg-mul, nonneg-pos, sub-nonneg}
@@ -22,9 +22,6 @@ use Rattle.algebra.proofs.Larger.{larger-parts}
 use Rattle.series.specs.Series.{D, Sᵍ, Dᶻ}
 use Rattle.point.specs.Point.{gauss}
 use Rattle.point.proofs.InLimits.{steps-say}
-use Rattle.answer.specs.declared.Figures.{Figures}
-use Rattle.answer.specs.declared.Answer.{Answer}
-use Rattle.answer.specs.declared.Answer.the-variants.{Answered, Refused}
 use Rattle.table_numbers.specs.Promise.{StepTable, Constants}
 use Rattle.table_numbers.specs.Numbers48.{constants48}
 use Rattle.table_numbers.specs.Table.{stepTable}
@@ -35,15 +32,16 @@ use Rattle.iteration.specs.declared.State.{State}
 use Rattle.iteration.specs.declared.Mode.the-variants.{Exp}
 use Rattle.iteration.specs.Run.{state, run}
 use Rattle.iteration.proofs.Drift.{Near}
 use Rattle.exponential.specs.declared.reduction.Reduced.{Reduced}
-use Rattle.exponential.specs.Reduction.{factor, eighths, doublings, left-over, reduced, unreduced, reduction}
-use Rattle.exponential.specs.Answer.{rounding-share, ended, figures, expAnswer, up, down, least-terms}
+use Rattle.exponential.specs.Reduction.{factor, eighths, doublings, left-over, reduced, unreduced}
+use Rattle.exponential.specs.Answer.{rounding-share, ended, figures, expAnswer, up}
+use Rattle.certificate.specs.Exponential.{miss, allowed, CertifiedAt, CertifiedFor, Certified}
 use Rattle.exponential.proofs.Convergence.{Rectangle}
 use Rattle.exponential.proofs.Error.{drifted, left-near-one}
 use Rattle.exponential.proofs.Reduced.{left-rectangle}
 use Rattle.exponential.proofs.Far.{reduction-off, with-reduction}
 use Rattle.exponential.proofs.Given.{rectangle-says, reach-says, by-rectangle}
 use Rattle.exponential.proofs.Close.{Accepted, answer-keeps}
 
 -- ---- as algebra: one is 256·H units, q = 2^N, v is one over 64·q, S the exponential of what is left, which is at most 91·v long
 module _ (H q v n P δ m : ℤ) (p s Q S S₀ : 𝔾) (H≥0 : pos 0 ⩽ H) (q≥1 : pos 1 ⩽ q) (v≥1 : pos 1 ⩽ v) (n<q : n +ℤ pos 1 ⩽ q)
@@ -99,23 +97,7 @@ module _ (F : ℕ) (wide : 16 ≤ F) (narrow : F ≤ 48) (t : StepTable) (promis
       a : Near F (F - 8) T s (Sᵍ (2 ^ F) T e) (pos 4 *ℤ Dᶻ (2 ^ F) T) n (x n)
       a = drifted F (F - 8) wide (omega arith) t promise e rect s (F - 8) n T h (omega arith) (omega arith) long
 
--- ---- the statement, of an answer a with ρ left of the exponent: both sides are multiplied by the divisors 2^F, 2^down and D T
--- the answer, times 2^k, times the exponential of ρ, less the start times the exponential of the given exponent
-abbrev pub left-miss : (F T : ℕ) (k : ℤ) (e s a ρ : 𝔾) → 𝔾
-left-miss F T k e s a ρ = twoᵍ (up k) *ᵍ a *ᵍ Sᵍ (2 ^ F) T ρ -ᵍ twoᵍ (down k) *ᵍ s *ᵍ Sᵍ (2 ^ F) T e
-
-abbrev pub left-allowed : (F n T : ℕ) (k m : ℤ) → ℤ
-left-allowed F n T k m = ((pos 12 *ℤ pos n +ℤ pos 51) *ℤ m +ℤ (rounding-share *ℤ pos n +ℤ pos 3) *ℤ two F) *ℤ two (up k) *ℤ Dᶻ (2 ^ F) T
-
--- is at most that in size in each part, M being that of the start s₁ which the steps were given
-pub record CertifiedAt (F n T : ℕ) (k : ℤ) (e s s₁ a ρ : 𝔾) : Type 0 where
-  pub re : abs (left-miss F T k e s a ρ .re) *ℤ two F ⩽ left-allowed F n T k (larger s₁)
-  pub im : abs (left-miss F T k e s a ρ .im) *ℤ two F ⩽ left-allowed F n T k (larger s₁)
-
-abbrev pub CertifiedFor : ℕ → Constants → ℕ → 𝔾 → 𝔾 → Figures → Type 0
-CertifiedFor F c n e s f = (T : ℕ) → least-terms F e ≤ T →
-    CertifiedAt F n T (f .«binary_exponent») e s (gauss (reduction F c e s .start)) (gauss (f .value)) (gauss (f .remainder))
-
+-- ---- inside the rectangle and outside
 module _ (F : ℕ) (wide : 16 ≤ F) (narrow : F ≤ 48) (t : StepTable) (table : StepPromise F (F - 8) t)
     (c : Constants) (promise : ConstantsPromise F c) where
   module _ (n T : ℕ) (e s : 𝔾) (most : n ≤ F - 8) where
@@ -124,13 +106,13 @@ module _ (F : ℕ) (wide : 16 ≤ F) (narrow : F ≤ 48) (t : StepTable) (table 
         CertifiedAt F n T (r .«binary_exponent») e s (gauss (r .start)) (gauss (x .point)) (gauss (x .sum))
 
     certified-parts : (r : Reduced) →
-        Parts (twoᵍ F *ᵍ left-miss F T (r .«binary_exponent») e s (gauss (ended F t n r .point)) (gauss (ended F t n r .sum)))
-        (left-allowed F n T (r .«binary_exponent») (larger (gauss (r .start)))) → CertifiedBy r
+        Parts (twoᵍ F *ᵍ miss F T (r .«binary_exponent») e s (gauss (ended F t n r .point)) (gauss (ended F t n r .sum)))
+        (allowed F n T (r .«binary_exponent») (larger (gauss (r .start)))) → CertifiedBy r
     certified-parts r h = let p = parts-abs (two F) _ h in record { re = p .0; im = p .1 }
 
     certified-inside : Rectangle F e → 24 ≤ T → CertifiedBy (unreduced e s)
     certified-inside rect long = certified-parts (unreduced e s) (parts-cancel (pos 70) (record { le = tt })
-        (subst (λ z. Parts z (pos 70 *ℤ left-allowed F n T (pos 0) m))
+        (subst (λ z. Parts z (pos 70 *ℤ allowed F n T (pos 0) m))
         (ring! 𝔾R (twoᵍ F ∷ a ∷ S ∷ s ∷ Sᵍ (2 ^ F) T e ∷ []) (search reifyᵍ depth 20) tt)
         (parts-weaken (exp-certified-share F wide narrow t table e rect s m (larger-parts s) T long n most)
         (lin (m ∷ pos n ∷ two F ∷ Dᶻ (2 ^ F) T ∷ [])
@@ -181,10 +163,6 @@ module _ (F : ℕ) (wide : 16 ≤ F) (narrow : F ≤ 48) (t : StepTable) (table 
       most = steps-say F 1 n (a .steps) .at-most
 
 -- THE CERTIFICATE, for all inputs of the call
-abbrev pub Certified : ℤ → ℤ → ℤ → ℤ → ℤ → Answer → Type 0
-Certified n ex ey sx sy (Answered f) = CertifiedFor 48 constants48 (natAbs n) (gi ex ey) (gi sx sy) f
-Certified n ex ey sx sy (Refused r) = Unit {0}
-
 pub exp-certified : (n ex ey sx sy : ℤ) → Certified n ex ey sx sy (expAnswer n ex ey sx sy)
 unfolding expAnswer
 exp-certified n ex ey sx sy = answer-keeps 48 stepTable constants48 n (gi ex ey) (gi sx sy) (Certified n ex ey sx sy) (λ r. tt)
