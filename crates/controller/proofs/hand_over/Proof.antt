@@ -1,5 +1,6 @@
 -- `controller::hand_over` meets its contract: 6 first, then the record.
 use mathlib.Core.Path.{_≡_, refl}
+use Prim.Native.Nat.{_≤_}
 use native.Mathlib.Omega.{arith}
 use borrow.Author.Tests.{lt-ltb, le-ltb}
 use lib.ListN.{length}
@@ -34,8 +35,9 @@ returns-2 c =
     let a = p .before .before .before in
     let n : length (a .«record» .result) ≡ 8 = search needs in
     let out = a .before .before .before .args .out .now in
-    rw (le-ltb _ _ (a .before .if1 .left), ← a .«record» .ensures)
-    (back (sfits-mag _ (c .result .given)), record-front out (a .«record» .result) n (a .before .if1 .left) (p .put-words .ensures))
+    let room : record-room ≤ length out = omega (arith, a .before .if1 .left) in
+    rw (le-ltb (length out) record-room room, ← a .«record» .ensures)
+    (back (sfits-mag _ (c .result .given)), record-front out (a .«record» .result) n room (p .put-words .ensures))
 
 pub hand-over-spec : {M : Type 1} → statement M
 hand-over-spec =
