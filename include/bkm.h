@@ -1,5 +1,5 @@
-/* EXP and LOG of points in units of 1/2^48, the lines of a sheet, and two sheets merged into
- * one: the C face of the library.
+/* EXP and LOG of points in units of 1/2^48, LOG in doubles, the lines of a sheet, and two sheets
+ * merged into one: the C face of the library.
  *
  * Link target/staticlib/libcontroller.a, which `rt staticlib controller` writes.
  *
@@ -84,6 +84,37 @@ int64_t bkm_exp(int64_t n, int64_t ex, int64_t ey, int64_t sx, int64_t sy, uint8
  * to rounding, the rest of the error to what is left over.
  */
 int64_t bkm_log(int64_t n, int64_t x, int64_t y, uint8_t *out, size_t out_len);
+
+/* Two parts as doubles, each over 2^48. */
+typedef struct {
+    double x, y;
+} bkm_doubles;
+
+/* LOG's answer in doubles: the refusal number or 0, and the two parts. */
+typedef struct {
+    int64_t refusal;
+    bkm_doubles parts;
+} bkm_in_doubles;
+
+/* Two doubles that were read: 9 or 0, and the two parts in units. */
+typedef struct {
+    int64_t refusal, x, y;
+} bkm_in_units;
+
+/* As bkm_log, with the two parts of the answer as doubles. Each double is the part divided by
+ * 2^48 and nothing is lost: no part is as large as 2^49 units, so none is rounded. A part of
+ * nought is plus zero. A refused call gives its number, 1, 3 or 4 as above, and two zeros, both
+ * plus zero. k, q, the error bound and the remainder are those of bkm_log.
+ */
+bkm_in_doubles bkm_log_doubles(int64_t n, int64_t x, int64_t y);
+
+/* Two such doubles read back as whole numbers of units: those of an answered bkm_log_doubles give
+ * the two parts of bkm_log. Accepted is every double that is a whole number of units below 2^49 in
+ * size, that is below two, and divided by 2^48 again the number is the same double, bit for bit.
+ * Every other one is refused with 9: fractions of a unit, 2^49 units and more, minus zero,
+ * infinities and what is not a number. Where one of the two is refused, both parts are 0.
+ */
+bkm_in_units bkm_read_doubles(bkm_doubles doubles);
 
 /* The answer to a line of a sheet, given without its newline, as the program bkm answers
  * it where it is the first: its bytes, a newline at the end, from the front of out.

@@ -23,9 +23,8 @@ fn written_tables() -> [(&'static str, &'static str, &'static [usize], String); 
     let steps = list((1..=40).map(|n| {
         list(digits().map(|dx| list(digits().map(|dy| pair(tables.step(n, point(dx, dy)))))))
     }));
-    let cells = list(
-        cell_xs().map(|cx| list(cell_ys().map(|cy| pair(tables.reciprocal_log(cx, cy))))),
-    );
+    let cells =
+        list(cell_xs().map(|cx| list(cell_ys().map(|cy| pair(tables.reciprocal_log(cx, cy))))));
     [
         ("ln(1 + d/2^n) by n - 1, dx + 1, dy + 1", "STEPS", &[40, 3, 3], steps),
         (

@@ -25,12 +25,13 @@ fn ones(units: i64) -> f64 {
     units as f64 / WIDTH_48.one() as f64
 }
 
-/// The angle in degrees and the logarithm of the length.
+/// The angle in degrees and the logarithm of the length, from LOG in doubles with its k and q.
 fn logarithm(point: &Figures) -> (f64, f64) {
-    let log =
-        compare::log_figures(Log { n: N, x: point.x, y: point.y }).expect("a point that LOG takes");
-    let angle = ones(log.y) + log.quadrant as f64 * FRAC_PI_2;
-    (angle.to_degrees(), ones(log.x) + log.binary_exponent as f64 * LN_2)
+    let input = Log { n: N, x: point.x, y: point.y };
+    let log = compare::log_figures(input).expect("a point that LOG takes");
+    let [x, y] = compare::log_doubles(input).1.map(f64::from_bits);
+    let angle = y + log.quadrant as f64 * FRAC_PI_2;
+    (angle.to_degrees(), x + log.binary_exponent as f64 * LN_2)
 }
 
 pub fn picture() -> String {

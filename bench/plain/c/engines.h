@@ -17,4 +17,21 @@ struct answer engine_log(int64_t n, int64_t px, int64_t py);
 int64_t plain_exp(int64_t n, int64_t ex, int64_t ey, int64_t sx, int64_t sy, uint8_t *out, size_t len);
 int64_t plain_log(int64_t n, int64_t x, int64_t y, uint8_t *out, size_t len);
 
+struct doubles {
+    double x, y;
+};
+
+struct in_doubles {
+    int64_t refusal;
+    struct doubles parts;
+};
+
+struct in_units {
+    int64_t refusal, x, y;
+};
+
+/* As bkm_log_doubles and bkm_read_doubles. */
+struct in_doubles plain_log_doubles(int64_t n, int64_t x, int64_t y);
+struct in_units plain_read_doubles(struct doubles doubles);
+
 #endif

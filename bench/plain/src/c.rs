@@ -1,11 +1,15 @@
 //! The C version, where the kit's clang was found.
 
+use crate::doubles::{Doubles, InDoubles, InUnits};
+
 pub struct Version {
     pub compiler: &'static str,
     /// The sheet program.
     pub program: &'static str,
     pub exp_record: fn(i64, i64, i64, i64, i64, &mut [u8]) -> i64,
     pub log_record: fn(i64, i64, i64, &mut [u8]) -> i64,
+    pub log_doubles: fn(i64, i64, i64) -> InDoubles,
+    pub read_doubles: fn(Doubles) -> InUnits,
 }
 
 #[cfg(not(plain_c))]
@@ -21,10 +25,15 @@ pub const VERSION: Option<Version> = Some(Version {
     },
     // SAFETY: as above.
     log_record: |n, x, y, out| unsafe { plain_log(n, x, y, out.as_mut_ptr(), out.len()) },
+    // SAFETY: both take numbers alone.
+    log_doubles: |n, x, y| unsafe { plain_log_doubles(n, x, y) },
+    read_doubles: |doubles| unsafe { plain_read_doubles(doubles) },
 });
 
 #[cfg(plain_c)]
 extern "C" {
     fn plain_exp(n: i64, ex: i64, ey: i64, sx: i64, sy: i64, out: *mut u8, len: usize) -> i64;
     fn plain_log(n: i64, x: i64, y: i64, out: *mut u8, len: usize) -> i64;
+    fn plain_log_doubles(n: i64, x: i64, y: i64) -> InDoubles;
+    fn plain_read_doubles(doubles: Doubles) -> InUnits;
 }

@@ -1,13 +1,15 @@
 //! The race: prints the tables of `bench/run` as markdown. `race quick` prints the same from a
-//! few rounds, without instructions; `race merges` prints the last of them alone. `race calls
-//! COURSE PLACE COUNT` runs COUNT small batches of one contender and nothing else, for counting
-//! instructions.
+//! few rounds, without instructions; `race doubles` and `race merges` print one of them alone.
+//! `race calls COURSE PLACE COUNT` runs COUNT small batches of one contender and nothing else, for
+//! counting instructions.
 
 mod callgrind;
 mod contenders;
+mod doubles;
 mod effort;
 mod merges;
 mod operation;
+mod rounds;
 mod sheets;
 mod table;
 
@@ -36,8 +38,9 @@ fn main() {
         }
         [] => race_all(&FULL),
         ["quick"] => race_all(&QUICK),
+        ["doubles"] => doubles::race(&FULL),
         ["merges"] => merges::race(&FULL),
-        _ => panic!("race [quick|merges], or race calls COURSE PLACE COUNT"),
+        _ => panic!("race [quick|doubles|merges], or race calls COURSE PLACE COUNT"),
     }
 }
 
@@ -60,6 +63,7 @@ fn race_all(effort: &Effort) {
     race(&FAR_EXP, effort);
     compare_versions::<Log>(effort);
     race(&LOG, effort);
+    doubles::race(effort);
     for name in missing() {
         println!("\nNot installed, so not in the race: {name}.");
     }

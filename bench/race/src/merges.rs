@@ -2,12 +2,12 @@
 //! `bench/run` builds, beside `sort -m`.
 
 use crate::effort::Effort;
+use crate::rounds::{rows, Contender};
 use crate::sheets::{line, SheetFile};
-use crate::table::{least, median, print_table};
+use crate::table::print_table;
 use reference::samples::Random;
 use std::env;
 use std::process::{Command, Stdio};
-use std::time::Instant;
 
 /// Lines dealt to two sheets; one in 16 stands in both.
 fn two_sheets(lines: usize) -> [Vec<u8>; 2] {
@@ -52,7 +52,7 @@ fn output(mut command: Command) -> Vec<u8> {
 }
 
 pub fn race(effort: &Effort) {
-    let mut rows = Vec::new();
+    let mut all = Vec::new();
     for lines in [effort.lines / 10, effort.lines] {
         let sheets = two_sheets(lines);
         let files = [0, 1].map(|place| SheetFile::new(&format!("merge-{place}"), &sheets[place]));
@@ -65,13 +65,12 @@ pub fn race(effort: &Effort) {
         assert!(output(example(&files)) == wanted, "merge_sheets merges differently");
         assert!(output(sort(&files)) == wanted, "sort merges differently");
 
-        type Contender<'a> = (&'a str, Box<dyn FnMut() + 'a>);
         let (mut out, mut other) = (out.clone(), out);
         let run = |mut command: Command| {
             let status = command.stdout(Stdio::null()).status();
             assert!(status.expect("a program that runs").success());
         };
-        let mut contenders: [Contender; 4] = [
+        let contenders: Vec<Contender> = vec![
             ("bkm_merge", Box::new(|| assert!(call(compare::merge, &sheets, &mut out) == written))),
             (
                 "plain Rust",
@@ -80,28 +79,11 @@ pub fn race(effort: &Effort) {
             ("merge_sheets, from files", Box::new(|| run(example(&files)))),
             ("sort -m -n -u, from files", Box::new(|| run(sort(&files)))),
         ];
-        let mut times = [const { Vec::new() }; 4];
-        for _ in 0..effort.sheet_rounds {
-            for (times, (_, contender)) in times.iter_mut().zip(&mut contenders) {
-                let begin = Instant::now();
-                contender();
-                times.push(begin.elapsed().as_nanos() as f64 / lines as f64);
-            }
-        }
-        for ((name, _), own) in contenders.iter().zip(&times) {
-            let ratios = own.iter().zip(&times[0]).map(|(this, product)| this / product);
-            rows.push(vec![
-                name.to_string(),
-                lines.to_string(),
-                format!("{:.1}", median(own.iter().copied())),
-                format!("{:.1}", least(own)),
-                format!("{:.2}", median(ratios)),
-            ]);
-        }
+        all.extend(rows(contenders, effort.sheet_rounds, lines, &lines.to_string()));
     }
     print_table(
         "Two sheets merged into one, the same bytes",
         &["", "lines", "ns a line, median", "least", "time / bkm_merge"],
-        rows.into_iter(),
+        all.into_iter(),
     );
 }

@@ -14,6 +14,9 @@ use Rattle.buffer.proofs.Words.{length-encode}
 use Rattle.buffer.proofs.Fitting.{Fitted, fitted-front}
 use Rattle.answer.specs.declared.Answer.{Answer}
 use Rattle.answer.specs.Record.{recordOf}
+use Rattle.logarithm.specs.Answer.{logAnswer}
+use Rattle.doubles.specs.declared.InDoubles.{InDoubles}
+use Rattle.doubles.specs.Record.{inDoubles, AnswerKept}
 use Rattle.controller.specs.Record.{record-room, handed, written, countOrRefusal}
 
 -- eight numbers fill the first 64 bytes
@@ -28,6 +31,12 @@ pub called : (b : List ℕ) {b′ : List ℕ} {a answer : Answer} {r : ℤ} → 
     (r ≡ handed b (recordOf a)) × (b′ ≡ written b (recordOf a)) → (toZ w64 (ofZ w64 r) ≡ handed b (recordOf answer))
     × (b′ ≡ written b (recordOf answer))
 called b {r = r} e f h = let told = rw e at h in (back (sfits-mag r f) ∙ told .0, told .1)
+
+-- ---- LOG in doubles, of the numbers as the machine holds them
+pub called-doubles : {n n′ x x′ y y′ : ℤ} {r : InDoubles} → n′ ≡ n → x′ ≡ x → y′ ≡ y →
+    (r ≡ inDoubles 48 (logAnswer n′ x′ y′)) × AnswerKept 48 (logAnswer n′ x′ y′) r →
+    (r ≡ inDoubles 48 (logAnswer n x y)) × AnswerKept 48 (logAnswer n x y) r
+called-doubles a b c h = rw (a, b, c) at h
 
 -- ---- a merge's count, or minus its refusal number
 pub count-handed : (r : ℕ) (bytes : List ℕ) → pos r ≡ pos 0 → pos (length bytes) ≡ countOrRefusal r bytes

@@ -1,4 +1,5 @@
-// The calls for C: EXP and LOG on plain numbers, 64 bytes into a lent buffer; a line of a sheet; two sheets merged; an entry of the step table.
+// The calls for C: EXP and LOG on plain numbers, 64 bytes into a lent buffer; LOG in doubles, and doubles read back; a line of a sheet; two
+// sheets merged; an entry of the step table.
 // include/bkm.h is the contract in plain words.
 ghost use mathlib.Core.Path.{_≡_};
 ghost use mathlib.Core.List.{_++_};
@@ -7,10 +8,14 @@ ghost use Rattle.answer.specs.Record.{recordOf};
 ghost use Rattle.table_numbers.specs.Table.{stepTable};
 ghost use Rattle.exponential.specs.Answer.{expAnswer};
 ghost use Rattle.logarithm.specs.Answer.{logAnswer};
+ghost use Rattle.doubles.specs.Record.{inDoubles, AnswerKept, inUnits, WrittenBack};
 ghost use Rattle.text.specs.Answer.{reply, countFor, outFor};
 ghost use Rattle.merge.specs.Call.{refusalFor, bytesFor};
 ghost use Rattle.controller.specs.Record.{handed, written, partOf, countOrRefusal};
 use answer::Answer;
+use doubles::Doubles;
+use doubles::InDoubles;
+use doubles::InUnits;
 use point::Point;
 
 // The bytes of a record, eight numbers.
@@ -45,6 +50,24 @@ pub extern "C" fn bkm_log(n: i64, x: i64, y: i64, out: &mut [u8]) -> i64
 {
     let answer = logarithm::log(n, Point { x, y });
     hand_over(answer, out)
+}
+
+// LOG's two parts as doubles, each over 2^48.
+#[no_mangle]
+pub extern "C" fn bkm_log_doubles(n: i64, x: i64, y: i64) -> InDoubles
+    ensures answer { λ r. ⌜ r ≡ inDoubles 48 (logAnswer n x y) ⌝ }
+    ensures kept { λ r. ⌜ AnswerKept 48 (logAnswer n x y) r ⌝ }
+{
+    doubles::log_doubles(n, Point { x, y })
+}
+
+// Two such doubles read back as whole numbers of units.
+#[no_mangle]
+pub extern "C" fn bkm_read_doubles(d: Doubles) -> InUnits
+    ensures answer { λ r. ⌜ r ≡ inUnits 48 d ⌝ }
+    ensures back { λ r. ⌜ WrittenBack 48 d r ⌝ }
+{
+    doubles::read_doubles(d)
 }
 
 // The answer to a line of a sheet, which comes without its newline: how many bytes it has, its newline counted, or 0 where the buffer is too

@@ -19,6 +19,29 @@ extern "C" {
         len: usize,
     ) -> i64;
     fn bkm_step_entry(n: usize, dx: i64, dy: i64, part: usize) -> i64;
+    fn bkm_log_doubles(n: i64, x: i64, y: i64) -> InDoubles;
+    fn bkm_read_doubles(doubles: Doubles) -> InUnits;
+}
+
+// The structs of include/bkm.h, which go by value.
+
+#[repr(C)]
+struct Doubles {
+    x: f64,
+    y: f64,
+}
+
+#[repr(C)]
+struct InDoubles {
+    refusal: i64,
+    parts: Doubles,
+}
+
+#[repr(C)]
+struct InUnits {
+    refusal: i64,
+    x: i64,
+    y: i64,
 }
 
 // Inlined, so that a test which makes one call links without the other.
@@ -54,6 +77,24 @@ pub fn merge(first: &[u8], second: &[u8], out: &mut [u8]) -> i64 {
 pub fn step_entry(n: usize, dx: i64, dy: i64) -> (i64, i64) {
     // SAFETY: the call takes numbers alone.
     unsafe { (bkm_step_entry(n, dx, dy, 0), bkm_step_entry(n, dx, dy, 1)) }
+}
+
+/// The refusal number or 0, and the bits of both doubles.
+#[inline]
+pub fn log_doubles(input: logarithm::Input) -> (i64, [u64; 2]) {
+    let logarithm::Input { n, x, y } = input;
+    // SAFETY: the call takes numbers alone.
+    let InDoubles { refusal, parts: Doubles { x, y } } = unsafe { bkm_log_doubles(n, x, y) };
+    (refusal, [x, y].map(f64::to_bits))
+}
+
+/// The refusal number or 0, and both numbers of units; of two doubles by their bits.
+#[inline]
+pub fn read_doubles(bits: [u64; 2]) -> [i64; 3] {
+    let [x, y] = bits.map(f64::from_bits);
+    // SAFETY: as above.
+    let InUnits { refusal, x, y } = unsafe { bkm_read_doubles(Doubles { x, y }) };
+    [refusal, x, y]
 }
 
 /// What a call hands back and writes into 64 bytes.

@@ -12,6 +12,7 @@ pub enum Refusal {
     Buffer = 6,
     Serial = 7,
     Clash = 8,
+    Double = 9,
 }
 
 #[derive(Clone, Copy, PartialEq, Eq, Debug)]

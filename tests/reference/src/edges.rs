@@ -1,5 +1,5 @@
-//! The edges and limits of 01 and of 02, E5 and E7 in their own numbers, for any implementation to
-//! be held to.
+//! The edges and limits of 01 and of 02, E5, E7 and E8 in their own numbers, for any implementation
+//! to be held to.
 
 use crate::answer::Record;
 use crate::exponential::Input as Exp;
@@ -263,6 +263,51 @@ pub fn log_reductions() -> Vec<(Log, [i64; 2])> {
         }
     }
     cases
+}
+
+/// Doubles by their bits, with the number of units that each is; the others are turned away.
+pub fn doubles() -> [(u64, Option<i64>); 32] {
+    let two = 2 * ONE;
+    [
+        (0, Some(0)),
+        // one unit, one, next below two, each with its sign
+        (0x3cf0_0000_0000_0000, Some(1)),
+        (0xbcf0_0000_0000_0000, Some(-1)),
+        (0x3cf8_0000_0000_0000, None),
+        (0x3d08_0000_0000_0000, Some(3)),
+        (0x3ff0_0000_0000_0000, Some(ONE)),
+        (0xbff0_0000_0000_0000, Some(-ONE)),
+        (0x3fff_ffff_ffff_fff0, Some(two - 1)),
+        (0xbfff_ffff_ffff_fff0, Some(1 - two)),
+        // 2^49 and more
+        (0x4000_0000_0000_0000, None),
+        (0xc000_0000_0000_0000, None),
+        (0x4000_0000_0000_0008, None),
+        (0x43e0_0000_0000_0000, None),
+        (0x7fef_ffff_ffff_ffff, None),
+        // between two whole numbers: below two, around one, half a unit
+        (0x3fff_ffff_ffff_ffff, None),
+        (0x3fff_ffff_ffff_fff8, None),
+        (0xbfff_ffff_ffff_fff8, None),
+        (0x3ff0_0000_0000_0001, None),
+        (0x3ff0_0000_0000_0010, Some(ONE + 1)),
+        (0x3fef_ffff_ffff_ffff, None),
+        (0x3fef_ffff_ffff_ffe0, Some(ONE - 1)),
+        (0x3ce0_0000_0000_0000, None),
+        (0xbcef_ffff_ffff_ffff, None),
+        // minus zero, the least double and the least normal one
+        (0x8000_0000_0000_0000, None),
+        (0x0000_0000_0000_0001, None),
+        (0x0010_0000_0000_0000, None),
+        // infinities
+        (0x7ff0_0000_0000_0000, None),
+        (0xfff0_0000_0000_0000, None),
+        // not numbers, quiet and signalling
+        (0x7ff8_0000_0000_0000, None),
+        (0xfff8_0000_0000_0001, None),
+        (0x7ff0_0000_0000_0001, None),
+        (0xffff_ffff_ffff_ffff, None),
+    ]
 }
 
 /// A digit as 01 writes it.

@@ -5,6 +5,7 @@
 pub mod answer;
 pub mod closeness;
 pub mod damage;
+pub mod doubles;
 pub mod edges;
 pub mod exponential;
 pub mod figure;

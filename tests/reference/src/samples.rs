@@ -1,5 +1,7 @@
 //! Inputs for the tests: the same ones at every run, most of them at edges.
 
+use crate::doubles::bits_of;
+use crate::edges::doubles;
 use crate::exponential::{self, rectangle, CUT};
 use crate::logarithm::{self, reduce, FIRST_STEP};
 use crate::point::{floor_quotient, point, Point};
@@ -231,6 +233,28 @@ pub fn log_input(random: &mut Random, width: Width) -> logarithm::Input {
     let n = steps(random, FIRST_STEP.into(), width);
     let point = log_point(random, width);
     logarithm::Input { n, x: word(point.x), y: word(point.y) }
+}
+
+/// The bits of a double: of any kind, a whole number of units, or next to one.
+pub fn double(random: &mut Random, width: Width) -> u64 {
+    let limit = 2 * width.one();
+    let bits = random.between(0, (width.fraction_bits + 1).into()) as u32;
+    let power = random.pick(&[-1, 1]) * (1i128 << bits);
+    match random.between(0, 15) {
+        0 => random.draw(),
+        // Of a size between a part of a unit and some twos.
+        1 => {
+            let exponent = random.between(1023 - 60, 1023 + 3) as u64;
+            random.draw() & (1 << 63 | (1 << 52) - 1) | exponent << 52
+        }
+        // Few digits.
+        2 => random.draw() & !0 << random.between(40, 63),
+        3 => random.pick(&doubles().map(|(bits, _)| bits)),
+        4..=5 => bits_of(word(random.between(-limit, limit)), width) ^ 1,
+        6..=7 => bits_of(word(power), width).wrapping_add_signed(random.nudge() as i64),
+        8..=10 => bits_of(word((power + random.nudge()).clamp(1 - limit, limit - 1)), width),
+        _ => bits_of(word(random.between(1 - limit, limit - 1)), width),
+    }
 }
 
 /// A line without its newline: well formed three times in four.
