@@ -103,7 +103,7 @@ def array_source():
 ghost use mathlib.Core.Path.{{_≡_}};
 ghost use Prim.Native.Nat.{{_<_, _+_}};
 ghost use Rattle.table_numbers.specs.Rows.{{stepRow, part}};
-use crate::rows{WIDTH} as t;
+use step_table::rows{WIDTH} as t;
 use table_numbers::Entry;
 """]
     for number, first in parts():
@@ -218,15 +218,15 @@ use Rattle.table_numbers.specs.Table.{{stepTable}}
 
 
 def part_proof(number, first):
-    module = f"Rattle.step_table.proofs.array{WIDTH}.part_{number}"
+    module = f"Rattle.step_array.proofs.array{WIDTH}.part_{number}"
     needs = ("mul-result", "mul-result-2", "index-1-result", "index-2-result")
     answers = "".join(f"{need} : tie.Need-{need}\n{need} c = search needs\n\n" for need in needs)
-    return f"""-- `step_table::array{WIDTH}::part_{number}` meets its contract: the array is the specification's. {MADE}
+    return f"""-- `step_array::array{WIDTH}::part_{number}` meets its contract: the array is the specification's. {MADE}
 use borrow.Author.Needs.{{needs}}
 use Rattle.table_numbers.specs.Numbers{WIDTH}.{{stepLogs}}
 use Rattle.table_numbers.specs.Table.{{stepTable}}
 use Rattle.table_numbers.specs.Rows.{{stepRow}}
-use Rattle.step_table.proofs.Matrices.{{matrices, matrices-at}}
+use Rattle.step_array.proofs.Matrices.{{matrices, matrices-at}}
 use {module}.Statement.{{statement}}
 use {module}.Tie as tie
 
@@ -251,9 +251,9 @@ FILES = {
     f"reciprocal_table/src/reciprocal_logs{WIDTH}.rt": reciprocal_logs_source,
     f"step_table/proofs/flat{WIDTH}/numbers_at/Proof.antt": steps_proof,
     f"reciprocal_table/proofs/reciprocal_logs{WIDTH}/reciprocal_log_at/Proof.antt": reciprocal_logs_proof,
-    f"step_table/src/array{WIDTH}.rt": array_source,
+    f"step_array/src/array{WIDTH}.rt": array_source,
 } | {
-    f"step_table/proofs/array{WIDTH}/part_{number}/Proof.antt": functools.partial(part_proof, number, first) for number, first in parts()
+    f"step_array/proofs/array{WIDTH}/part_{number}/Proof.antt": functools.partial(part_proof, number, first) for number, first in parts()
 }
 
 

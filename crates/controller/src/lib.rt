@@ -101,6 +101,6 @@ pub extern "C" fn bkm_merge<'a>(a: &'a [u8], b: &'a [u8], out: &mut [u8]) -> i64
 pub extern "C" fn bkm_step_entry(n: usize, dx: i64, dy: i64, part: usize) -> i64
     ensures { λ r. ⌜ r ≡ partOf part (stepTable n dx dy) ⌝ }
 {
-    let e = tables::pick(step_table::array_row(n, dx), dy);
+    let e = tables::pick(step_array::array_row(n, dx), dy);
     if part == 0 { e.re } else { e.im }
 }

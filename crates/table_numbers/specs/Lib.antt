@@ -1,5 +1,5 @@
--- The reciprocals, the numbers of the two tables of logarithms, and what is promised of these. The crates `step_table` and
--- `reciprocal_table` have the numbers in code, and `tables` hands them out. Read beside 01 (The step; LOG, Seat) in this order.
+-- The reciprocals, the numbers of the two tables of logarithms, and what is promised of these. The crates `step_table`,
+-- `step_array` and `reciprocal_table` have the numbers in code, and `tables` hands them out. Read beside 01 (The step; LOG, Seat) in this order.
 -- The promise: all that the engines know of a table
 pub mod Reciprocal
 pub mod Window

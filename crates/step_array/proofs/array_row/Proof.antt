@@ -1,4 +1,4 @@
--- `step_table::array_row` meets its contract: that of the part which has n.
+-- `step_array::array_row` meets its contract: that of the part which has n.
 use mathlib.Core.Path.{_≡_, sym, _∙_}
 use mathlib.Core.Bool.{false}
 use mathlib.Core.Logic.{inl, inr}
@@ -12,9 +12,9 @@ use Rattle.point.specs.Digit.{Trit}
 use Rattle.table_numbers.proofs.RowLaws.{no-step}
 use Rattle.table_numbers.proofs.DigitPlaces.{place-lt, next-fits, place-word, trit-of}
 use Rattle.table_numbers.proofs.Promised.{row-kept, no-digit}
-use Rattle.step_table.proofs.Matrices.{part-kept}
-use Rattle.step_table.proofs.array_row.Statement.{statement}
-use Rattle.step_table.proofs.array_row.Tie as tie
+use Rattle.step_array.proofs.Matrices.{part-kept}
+use Rattle.step_array.proofs.array_row.Statement.{statement}
+use Rattle.step_array.proofs.array_row.Tie as tie
 
 digit : (c : tie.Else2) → Trit (c .before .before .before .args .dx)
 digit c = let s = c .before .before .before in

@@ -1,11 +1,11 @@
--- `step_table::array48::part_4` meets its contract: the array is the specification's. Made by tests/tables/generate.py.
+-- `step_array::array48::part_4` meets its contract: the array is the specification's. Made by tests/tables/generate.py.
 use borrow.Author.Needs.{needs}
 use Rattle.table_numbers.specs.Numbers48.{stepLogs}
 use Rattle.table_numbers.specs.Table.{stepTable}
 use Rattle.table_numbers.specs.Rows.{stepRow}
-use Rattle.step_table.proofs.Matrices.{matrices, matrices-at}
-use Rattle.step_table.proofs.array48.part_4.Statement.{statement}
-use Rattle.step_table.proofs.array48.part_4.Tie as tie
+use Rattle.step_array.proofs.Matrices.{matrices, matrices-at}
+use Rattle.step_array.proofs.array48.part_4.Statement.{statement}
+use Rattle.step_array.proofs.array48.part_4.Tie as tie
 
 mul-result : tie.Need-mul-result
 mul-result c = search needs

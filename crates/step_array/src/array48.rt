@@ -2,7 +2,7 @@
 ghost use mathlib.Core.Path.{_≡_};
 ghost use Prim.Native.Nat.{_<_, _+_};
 ghost use Rattle.table_numbers.specs.Rows.{stepRow, part};
-use crate::rows48 as t;
+use step_table::rows48 as t;
 use table_numbers::Entry;
 
 const PART_1: [[[Entry; 3]; 3]; 10] = [
