@@ -46,6 +46,11 @@ static int refused(const uint8_t *out, int64_t refusal)
     return holds(out, (const int64_t[8]){refusal});
 }
 
+static int unread(bkm_in_units read)
+{
+    return read.refusal == 9 && read.x == 0 && read.y == 0;
+}
+
 static int all(const uint8_t *bytes, size_t length, uint8_t value)
 {
     for (size_t i = 0; i < length; i++)
@@ -125,10 +130,8 @@ int main(void)
     check("minus one unit, and one below 2^49", back.refusal == 0 && back.x == -1 && back.y == 2 * one - 1);
     const double bad[] = {2, -2, 0x1p-49, 1 + 0x1p-52, -0.0, INFINITY, -INFINITY, NAN, 0x1p-1074};
     int all_refused = 1;
-    for (size_t i = 0; i < sizeof bad / sizeof *bad; i++) {
-        bkm_in_units first = bkm_read_doubles((bkm_doubles){bad[i], 1}), second = bkm_read_doubles((bkm_doubles){1, bad[i]});
-        all_refused &= first.refusal == 9 && first.x == 0 && first.y == 0 && second.refusal == 9 && second.x == 0 && second.y == 0;
-    }
+    for (size_t i = 0; i < sizeof bad / sizeof *bad; i++)
+        all_refused &= unread(bkm_read_doubles((bkm_doubles){bad[i], 1})) && unread(bkm_read_doubles((bkm_doubles){1, bad[i]}));
     check("any other double is refused with 9 in either place, and both parts are zero", all_refused);
 
     printf("%d passed, %d failed\n", passed, failed);
