@@ -16,6 +16,28 @@ use Rattle.doubles.proofs.log_doubles.Tie as tie
 logged : (c : tie.After-log) → let s = c .before in logAnswer (s .args .n) (s .args .p .x) (s .args .p .y) ≡ c .log .result
 logged c = sym (rw (back (c .before .fits .n)) at (c .log .ensures .0))
 
+returns : tie.Need-returns
+returns c =
+    let t = c .before .before in
+    let a = t .before .before .before .before in
+    let l = a .before .before in
+    let s = l .before in
+    let v = a .answer .given .0 .0 .value in
+    let x = c .before .write-part .ensures ∙ ap (doubleOf 48) (back (sfits-mag (v .x) (t .before .struct-told .given .0 .1))) in
+    let y = c .write-part2 .ensures ∙ ap (doubleOf 48) (back (sfits-mag (v .y) (t .struct-told2 .given .1 .0 .1))) in
+    given (s .args .n) (s .args .p .x) (s .args .p .y)
+    (ap₂ (λ p q. record { refusal = pos 0; parts = record { x = p; y = q } }) x y ∙ sym (answered-is 48 (logged l ∙ a .answer .given .1)))
+
+returns-2 : tie.Need-returns-2
+unfolding ofBits
+returns-2 c =
+    let a = c .before .before in
+    let l = a .before .before in
+    let s = l .before in
+    given (s .args .n) (s .args .p .x) (s .args .p .y)
+    (ap (λ k. record { refusal = k; parts = zeros }) (back (sfits-mag (c .number .result) (c .number .ok)) ∙ c .number .ensures)
+    ∙ sym (refused-is 48 (logged l ∙ a .answer2 .given .1)))
+
 log-requires : tie.Need-log-requires
 log-requires c κs = search needs
 
@@ -45,28 +67,6 @@ enum-known-answer-2 c = search needs
 
 number-requires : tie.Need-number-requires
 number-requires c κs = search needs
-
-returns : tie.Need-returns
-returns c =
-    let t = c .before .before in
-    let a = t .before .before .before .before in
-    let l = a .before .before in
-    let s = l .before in
-    let v = a .answer .given .0 .0 .value in
-    let x = c .before .write-part .ensures ∙ ap (doubleOf 48) (back (sfits-mag (v .x) (t .before .struct-told .given .0 .1))) in
-    let y = c .write-part2 .ensures ∙ ap (doubleOf 48) (back (sfits-mag (v .y) (t .struct-told2 .given .1 .0 .1))) in
-    given (s .args .n) (s .args .p .x) (s .args .p .y)
-    (ap₂ (λ p q. record { refusal = pos 0; parts = record { x = p; y = q } }) x y ∙ sym (answered-is 48 (logged l ∙ a .answer .given .1)))
-
-returns-2 : tie.Need-returns-2
-unfolding ofBits
-returns-2 c =
-    let a = c .before .before in
-    let l = a .before .before in
-    let s = l .before in
-    given (s .args .n) (s .args .p .x) (s .args .p .y)
-    (ap (λ k. record { refusal = k; parts = zeros }) (back (sfits-mag (c .number .result) (c .number .ok)) ∙ c .number .ensures)
-    ∙ sym (refused-is 48 (logged l ∙ a .answer2 .given .1)))
 
 pub log-doubles-spec : {M : Type 1} → statement M
 log-doubles-spec =

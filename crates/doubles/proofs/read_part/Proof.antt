@@ -8,26 +8,6 @@ use Rattle.doubles.proofs.Found.{two-48, two-49, passed, cut-small, wri
 use Rattle.doubles.proofs.read_part.Statement.{statement}
 use Rattle.doubles.proofs.read_part.Tie as tie
 
-truncating-f64-to-i64-requires : tie.Need-truncating-f64-to-i64-requires
-truncating-f64-to-i64-requires c κs =
-    let i = passed 48 (lit≤ tt) two-48 two-49 (c .before .before .args .x) (c .before .if1 .taken) (c .if2 .taken) in
-    (i .low, i .high)
-
-write-part-requires : tie.Need-write-part-requires
-write-part-requires c κs =
-    let t = c .before in
-    let k = c .truncating-f64-to-i64 in
-    rw (back (sfits-mag (k .result) (k .ok)))
-    (cut-small 48 (lit≤ tt) two-48 two-49 (t .before .before .args .x) (t .before .if1 .taken) (t .if2 .taken) (k .ensures))
-
-float-to-bits-if3 : tie.Need-float-to-bits-if3
-float-to-bits-if3 c = rw (c .write-part .ensures) (written-number 48 _)
-
-float-to-bits-if3-2 : tie.Need-float-to-bits-if3-2
-float-to-bits-if3-2 c =
-    let t = c .before .before in
-    product-number (t .before .before .args .x) _ _ (subst T (sym (t .before .if1 .taken)) tt)
-
 returns : tie.Need-returns
 returns c =
     let k = c .before .before .truncating-f64-to-i64 in
@@ -54,6 +34,26 @@ returns-3 c = rw (outside-high 48 (lit≤ tt) two-48 two-49 (c .before .before .
 returns-4 : tie.Need-returns-4
 unfolding partIn
 returns-4 c = rw (outside-low 48 (lit≤ tt) two-48 two-49 (c .before .args .x) (c .if1 .left))
+
+truncating-f64-to-i64-requires : tie.Need-truncating-f64-to-i64-requires
+truncating-f64-to-i64-requires c κs =
+    let i = passed 48 (lit≤ tt) two-48 two-49 (c .before .before .args .x) (c .before .if1 .taken) (c .if2 .taken) in
+    (i .low, i .high)
+
+write-part-requires : tie.Need-write-part-requires
+write-part-requires c κs =
+    let t = c .before in
+    let k = c .truncating-f64-to-i64 in
+    rw (back (sfits-mag (k .result) (k .ok)))
+    (cut-small 48 (lit≤ tt) two-48 two-49 (t .before .before .args .x) (t .before .if1 .taken) (t .if2 .taken) (k .ensures))
+
+float-to-bits-if3 : tie.Need-float-to-bits-if3
+float-to-bits-if3 c = rw (c .write-part .ensures) (written-number 48 _)
+
+float-to-bits-if3-2 : tie.Need-float-to-bits-if3-2
+float-to-bits-if3-2 c =
+    let t = c .before .before in
+    product-number (t .before .before .args .x) _ _ (subst T (sym (t .before .if1 .taken)) tt)
 
 pub read-part-spec : {M : Type 1} → statement M
 read-part-spec =
