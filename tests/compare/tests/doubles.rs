@@ -31,7 +31,8 @@ fn answers() {
     assert!([0, 1, 3, 4].iter().all(|&number| met[number] > SAMPLES / 1000));
 }
 
-/// What is accepted, and written back to the same bits; then that it is the bits of LOG's part.
+/// A pair is read as the second implementation reads it, and what is accepted is written back to the
+/// same bits, by that and by the processor. Whether it is accepted.
 fn check(bits: [u64; 2]) -> bool {
     let read = read_doubles(bits);
     assert_eq!(read, in_units(bits, W), "{bits:016x?}");
@@ -92,7 +93,7 @@ fn every_exponent() {
     assert!(accepted > 4000);
 }
 
-/// Every number of units next to a power of two or to one's multiples, and the doubles next to it.
+/// Every number of units next to a power of two and some others, and the doubles next to it.
 #[test]
 fn next_to_powers() {
     let near = |middle: i64| (-1000..=1000).map(move |offset| middle + offset);
