@@ -47,12 +47,12 @@ static int plot(int64_t x, int64_t y) {
     /* A machine that stores the low byte first reads the record as it is. */
     int64_t record[8];
     bkm_log(STEPS, x, y, (uint8_t *)record, sizeof record);
-    bkm_in_doubles log = bkm_log_doubles(STEPS, x, y);
+    bkm_doubles_answer log = bkm_log_doubles(STEPS, x, y);
     if (log.refusal != 0) {
         fprintf(stderr, "refused with %" PRId64 "\n", log.refusal);
         return 1;
     }
-    bkm_in_units back = bkm_read_doubles(log.parts);
+    bkm_units_answer back = bkm_read_doubles(log.parts);
     if (back.refusal != 0 || back.x != record[1] || back.y != record[2]) {
         fprintf(stderr, "the doubles are not the record's parts\n");
         return 1;

@@ -94,19 +94,19 @@ typedef struct {
 typedef struct {
     int64_t refusal;
     bkm_doubles parts;
-} bkm_in_doubles;
+} bkm_doubles_answer;
 
 /* Two doubles that were read: 9 or 0, and the two parts in units. */
 typedef struct {
     int64_t refusal, x, y;
-} bkm_in_units;
+} bkm_units_answer;
 
 /* As bkm_log, with the two parts of the answer as doubles. Each double is the part divided by
  * 2^48 and nothing is lost: no part is as large as 2^49 units, so none is rounded. A part of
  * nought is plus zero. A refused call gives its number, 1, 3 or 4 as above, and two zeros, both
  * plus zero. k, q, the error bound and the remainder are those of bkm_log.
  */
-bkm_in_doubles bkm_log_doubles(int64_t n, int64_t x, int64_t y);
+bkm_doubles_answer bkm_log_doubles(int64_t n, int64_t x, int64_t y);
 
 /* Two such doubles read back as whole numbers of units: those of an answered bkm_log_doubles give
  * the two parts of bkm_log. Accepted is every double that is a whole number of units below 2^49 in
@@ -114,7 +114,7 @@ bkm_in_doubles bkm_log_doubles(int64_t n, int64_t x, int64_t y);
  * Every other one is refused with 9: fractions of a unit, 2^49 units and more, minus zero,
  * infinities and what is not a number. Where one of the two is refused, both parts are 0.
  */
-bkm_in_units bkm_read_doubles(bkm_doubles doubles);
+bkm_units_answer bkm_read_doubles(bkm_doubles doubles);
 
 /* The answer to a line of a sheet, given without its newline, as the program bkm answers
  * it where it is the first: its bytes, a newline at the end, from the front of out.

@@ -46,7 +46,7 @@ static int refused(const uint8_t *out, int64_t refusal)
     return holds(out, (const int64_t[8]){refusal});
 }
 
-static int unread(bkm_in_units read)
+static int unread(bkm_units_answer read)
 {
     return read.refusal == 9 && read.x == 0 && read.y == 0;
 }
@@ -117,8 +117,8 @@ int main(void)
     check("the entry of n = 1, d = -1", bkm_step_entry(1, -1, 0, 0) == -INT64_C(195103586505167) && bkm_step_entry(1, -1, 0, 1) == 0);
 
     const bkm_doubles zeros = {0.0, 0.0};
-    bkm_in_doubles given = bkm_log_doubles(40, one, 0);
-    bkm_in_units back = bkm_read_doubles(given.parts);
+    bkm_doubles_answer given = bkm_log_doubles(40, one, 0);
+    bkm_units_answer back = bkm_read_doubles(given.parts);
     bkm_log(40, one, 0, out, 64);
     check("LOG of one in doubles: its parts over 2^48",
           given.refusal == 0 && given.parts.x == ldexp((double)number(out, 1), -48) && given.parts.y == ldexp((double)number(out, 2), -48));

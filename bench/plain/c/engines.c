@@ -141,9 +141,9 @@ int64_t plain_log(int64_t n, int64_t x, int64_t y, uint8_t *out, size_t len) {
     return len < sizeof(struct answer) ? 6 : write_record(engine_log(n, x, y), out);
 }
 
-struct in_doubles plain_log_doubles(int64_t n, int64_t x, int64_t y) {
+struct doubles_answer plain_log_doubles(int64_t n, int64_t x, int64_t y) {
     struct answer answer = engine_log(n, x, y);
-    return (struct in_doubles){answer.refusal, {(double)answer.x / ONE, (double)answer.y / ONE}};
+    return (struct doubles_answer){answer.refusal, {(double)answer.x / ONE, (double)answer.y / ONE}};
 }
 
 /* Whether x is a whole number of units below 2^49 in size and not minus zero, and which one. */
@@ -155,9 +155,9 @@ static int read_part(double x, int64_t *units) {
     return (double)*units == product && (*units != 0 || !__builtin_signbit(x));
 }
 
-struct in_units plain_read_doubles(struct doubles doubles) {
+struct units_answer plain_read_doubles(struct doubles doubles) {
     int64_t x, y;
     if (read_part(doubles.x, &x) && read_part(doubles.y, &y))
-        return (struct in_units){0, x, y};
-    return (struct in_units){.refusal = 9};
+        return (struct units_answer){0, x, y};
+    return (struct units_answer){.refusal = 9};
 }

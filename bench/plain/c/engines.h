@@ -21,17 +21,17 @@ struct doubles {
     double x, y;
 };
 
-struct in_doubles {
+struct doubles_answer {
     int64_t refusal;
     struct doubles parts;
 };
 
-struct in_units {
+struct units_answer {
     int64_t refusal, x, y;
 };
 
 /* As bkm_log_doubles and bkm_read_doubles. */
-struct in_doubles plain_log_doubles(int64_t n, int64_t x, int64_t y);
-struct in_units plain_read_doubles(struct doubles doubles);
+struct doubles_answer plain_log_doubles(int64_t n, int64_t x, int64_t y);
+struct units_answer plain_read_doubles(struct doubles doubles);
 
 #endif

@@ -1,6 +1,6 @@
 //! The C version, where the kit's clang was found.
 
-use crate::doubles::{Doubles, InDoubles, InUnits};
+use crate::doubles::{Doubles, DoublesAnswer, UnitsAnswer};
 
 pub struct Version {
     pub compiler: &'static str,
@@ -8,8 +8,8 @@ pub struct Version {
     pub program: &'static str,
     pub exp_record: fn(i64, i64, i64, i64, i64, &mut [u8]) -> i64,
     pub log_record: fn(i64, i64, i64, &mut [u8]) -> i64,
-    pub log_doubles: fn(i64, i64, i64) -> InDoubles,
-    pub read_doubles: fn(Doubles) -> InUnits,
+    pub log_doubles: fn(i64, i64, i64) -> DoublesAnswer,
+    pub read_doubles: fn(Doubles) -> UnitsAnswer,
 }
 
 #[cfg(not(plain_c))]
@@ -34,6 +34,6 @@ pub const VERSION: Option<Version> = Some(Version {
 extern "C" {
     fn plain_exp(n: i64, ex: i64, ey: i64, sx: i64, sy: i64, out: *mut u8, len: usize) -> i64;
     fn plain_log(n: i64, x: i64, y: i64, out: *mut u8, len: usize) -> i64;
-    fn plain_log_doubles(n: i64, x: i64, y: i64) -> InDoubles;
-    fn plain_read_doubles(doubles: Doubles) -> InUnits;
+    fn plain_log_doubles(n: i64, x: i64, y: i64) -> DoublesAnswer;
+    fn plain_read_doubles(doubles: Doubles) -> UnitsAnswer;
 }

@@ -11,14 +11,14 @@ pub struct Doubles {
 
 #[repr(C)]
 #[derive(Clone, Copy, PartialEq, Debug)]
-pub struct InDoubles {
+pub struct DoublesAnswer {
     pub refusal: i64,
     pub parts: Doubles,
 }
 
 #[repr(C)]
 #[derive(Clone, Copy, PartialEq, Eq, Debug)]
-pub struct InUnits {
+pub struct UnitsAnswer {
     pub refusal: i64,
     pub x: i64,
     pub y: i64,
@@ -29,12 +29,15 @@ const ONE: f64 = (1u64 << 48) as f64;
 // Not inlined, as the product's calls cannot be.
 
 #[inline(never)]
-pub fn log_doubles(n: i64, x: i64, y: i64) -> InDoubles {
+pub fn log_doubles(n: i64, x: i64, y: i64) -> DoublesAnswer {
     match log(n, x, y) {
-        Ok(f) => {
-            InDoubles { refusal: 0, parts: Doubles { x: f.x as f64 / ONE, y: f.y as f64 / ONE } }
+        Ok(f) => DoublesAnswer {
+            refusal: 0,
+            parts: Doubles { x: f.x as f64 / ONE, y: f.y as f64 / ONE },
+        },
+        Err(refusal) => {
+            DoublesAnswer { refusal: refusal as i64, parts: Doubles { x: 0.0, y: 0.0 } }
         }
-        Err(refusal) => InDoubles { refusal: refusal as i64, parts: Doubles { x: 0.0, y: 0.0 } },
     }
 }
 
@@ -45,9 +48,9 @@ fn units(x: f64) -> Option<i64> {
 }
 
 #[inline(never)]
-pub fn read_doubles(doubles: Doubles) -> InUnits {
+pub fn read_doubles(doubles: Doubles) -> UnitsAnswer {
     match (units(doubles.x), units(doubles.y)) {
-        (Some(x), Some(y)) => InUnits { refusal: 0, x, y },
-        _ => InUnits { refusal: Refusal::Double as i64, x: 0, y: 0 },
+        (Some(x), Some(y)) => UnitsAnswer { refusal: 0, x, y },
+        _ => UnitsAnswer { refusal: Refusal::Double as i64, x: 0, y: 0 },
     }
 }

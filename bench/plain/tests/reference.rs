@@ -1,10 +1,10 @@
 //! The plain versions against the second implementation of the tests.
 
-use plain::doubles::{log_doubles, read_doubles, Doubles, InDoubles, InUnits};
+use plain::doubles::{log_doubles, read_doubles, Doubles, DoublesAnswer, UnitsAnswer};
 use plain::{c, engines, merge, sheet};
 use reference::answer::{write_record, RECORD_BYTES};
 use reference::damage::{every_damage, longest_line, merges};
-use reference::doubles::{in_doubles, in_units};
+use reference::doubles::{doubles_answer, units_answer};
 use reference::edges::{exp_refusals, exp_scales, far_exp_records, EXP, LOG};
 use reference::merge::merge_into;
 use reference::samples::{self, double, exp_input, line, log_input, Random};
@@ -56,16 +56,16 @@ fn log() {
 
 #[test]
 fn doubles() {
-    let bits = |d: InDoubles| (d.refusal, [d.parts.x, d.parts.y].map(f64::to_bits));
-    let units = |u: InUnits| [u.refusal, u.x, u.y];
+    let bits = |d: DoublesAnswer| (d.refusal, [d.parts.x, d.parts.y].map(f64::to_bits));
+    let units = |u: UnitsAnswer| [u.refusal, u.x, u.y];
     let mut random = Random::new(16);
     for _ in 0..SAMPLES {
         let i = log_input(&mut random, W);
-        let wanted = in_doubles(logarithm::log(i, W), W);
+        let wanted = doubles_answer(logarithm::log(i, W), W);
         assert_eq!(bits(log_doubles(i.n, i.x, i.y)), wanted, "{i:?}");
         let pattern = [(); 2].map(|_| double(&mut random, W));
         let [x, y] = pattern.map(f64::from_bits);
-        let read = in_units(pattern, W);
+        let read = units_answer(pattern, W);
         assert_eq!(units(read_doubles(Doubles { x, y })), read, "{pattern:016x?}");
         if let Some(c) = c::VERSION {
             assert_eq!(bits((c.log_doubles)(i.n, i.x, i.y)), wanted, "{i:?}");

@@ -5,18 +5,18 @@ use crate::effort::Effort;
 use crate::operation::Operation;
 use crate::rounds::{rows, Contender};
 use crate::table::print_table;
-use plain::doubles::{Doubles, InDoubles, InUnits};
+use plain::doubles::{Doubles, DoublesAnswer, UnitsAnswer};
 use reference::answer::RECORD_BYTES;
 use reference::logarithm::Input as Log;
 use reference::samples::{double, log_input, Random};
 use reference::width::WIDTH_48;
 use std::hint::black_box;
 
-fn bits(answer: InDoubles) -> (i64, [u64; 2]) {
+fn bits(answer: DoublesAnswer) -> (i64, [u64; 2]) {
     (answer.refusal, [answer.parts.x, answer.parts.y].map(f64::to_bits))
 }
 
-fn numbers(read: InUnits) -> [i64; 3] {
+fn numbers(read: UnitsAnswer) -> [i64; 3] {
     [read.refusal, read.x, read.y]
 }
 

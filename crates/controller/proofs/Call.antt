@@ -15,8 +15,8 @@ use Rattle.buffer.proofs.Fitting.{Fitted, fitted-front}
 use Rattle.answer.specs.declared.Answer.{Answer}
 use Rattle.answer.specs.Record.{recordOf}
 use Rattle.logarithm.specs.Answer.{logAnswer}
-use Rattle.doubles.specs.declared.InDoubles.{InDoubles}
-use Rattle.doubles.specs.Record.{inDoubles, AnswerKept}
+use Rattle.doubles.specs.declared.DoublesAnswer.{DoublesAnswer}
+use Rattle.doubles.specs.Record.{doublesAnswer, AnswerKept}
 use Rattle.controller.specs.Record.{record-room, handed, written, countOrRefusal}
 
 -- eight numbers fill the first 64 bytes
@@ -33,9 +33,9 @@ pub called : (b : List ℕ) {b′ : List ℕ} {a answer : Answer} {r : ℤ} → 
 called b {r = r} e f h = let told = rw e at h in (back (sfits-mag r f) ∙ told .0, told .1)
 
 -- ---- LOG in doubles, of the numbers as the machine holds them
-pub called-doubles : {n n′ x x′ y y′ : ℤ} {r : InDoubles} → n′ ≡ n → x′ ≡ x → y′ ≡ y →
-    (r ≡ inDoubles 48 (logAnswer n′ x′ y′)) × AnswerKept 48 (logAnswer n′ x′ y′) r →
-    (r ≡ inDoubles 48 (logAnswer n x y)) × AnswerKept 48 (logAnswer n x y) r
+pub called-doubles : {n n′ x x′ y y′ : ℤ} {r : DoublesAnswer} → n′ ≡ n → x′ ≡ x → y′ ≡ y →
+    (r ≡ doublesAnswer 48 (logAnswer n′ x′ y′)) × AnswerKept 48 (logAnswer n′ x′ y′) r →
+    (r ≡ doublesAnswer 48 (logAnswer n x y)) × AnswerKept 48 (logAnswer n x y) r
 called-doubles a b c h = rw (a, b, c) at h
 
 -- ---- a merge's count, or minus its refusal number

@@ -8,14 +8,14 @@ ghost use Rattle.answer.specs.Record.{recordOf};
 ghost use Rattle.table_numbers.specs.Table.{stepTable};
 ghost use Rattle.exponential.specs.Answer.{expAnswer};
 ghost use Rattle.logarithm.specs.Answer.{logAnswer};
-ghost use Rattle.doubles.specs.Record.{inDoubles, AnswerKept, inUnits, WrittenBack};
+ghost use Rattle.doubles.specs.Record.{doublesAnswer, AnswerKept, unitsAnswer, WrittenBack};
 ghost use Rattle.text.specs.Answer.{reply, countFor, outFor};
 ghost use Rattle.merge.specs.Call.{refusalFor, bytesFor};
 ghost use Rattle.controller.specs.Record.{handed, written, partOf, countOrRefusal};
 use answer::Answer;
 use doubles::Doubles;
-use doubles::InDoubles;
-use doubles::InUnits;
+use doubles::DoublesAnswer;
+use doubles::UnitsAnswer;
 use point::Point;
 
 // The bytes of a record, eight numbers.
@@ -54,8 +54,8 @@ pub extern "C" fn bkm_log(n: i64, x: i64, y: i64, out: &mut [u8]) -> i64
 
 // LOG's two parts as doubles, each over 2^48.
 #[no_mangle]
-pub extern "C" fn bkm_log_doubles(n: i64, x: i64, y: i64) -> InDoubles
-    ensures answer { λ r. ⌜ r ≡ inDoubles 48 (logAnswer n x y) ⌝ }
+pub extern "C" fn bkm_log_doubles(n: i64, x: i64, y: i64) -> DoublesAnswer
+    ensures answer { λ r. ⌜ r ≡ doublesAnswer 48 (logAnswer n x y) ⌝ }
     ensures kept { λ r. ⌜ AnswerKept 48 (logAnswer n x y) r ⌝ }
 {
     doubles::log_doubles(n, Point { x, y })
@@ -63,8 +63,8 @@ pub extern "C" fn bkm_log_doubles(n: i64, x: i64, y: i64) -> InDoubles
 
 // Two such doubles read back as whole numbers of units.
 #[no_mangle]
-pub extern "C" fn bkm_read_doubles(d: Doubles) -> InUnits
-    ensures answer { λ r. ⌜ r ≡ inUnits 48 d ⌝ }
+pub extern "C" fn bkm_read_doubles(d: Doubles) -> UnitsAnswer
+    ensures answer { λ r. ⌜ r ≡ unitsAnswer 48 d ⌝ }
     ensures back { λ r. ⌜ WrittenBack 48 d r ⌝ }
 {
     doubles::read_doubles(d)

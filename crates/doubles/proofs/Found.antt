@@ -7,10 +7,10 @@ use lib.Dec.{T}
 use lib.IntN.{ℤ, pos, natAbs}
 use lib.Ieee.{Float, binary64, fits, toBits, ofBits, isNan, neg, mul, lt, toSigned}
 use Rattle.doubles.specs.declared.Doubles.{Doubles}
-use Rattle.doubles.specs.declared.InUnits.{InUnits}
+use Rattle.doubles.specs.declared.UnitsAnswer.{UnitsAnswer}
 use Rattle.doubles.specs.declared.Part.the-variants.{Whole, Other}
 use Rattle.doubles.specs.Units.{isNegative, doubleOf, isUnits, unitsOf}
-use Rattle.doubles.specs.Record.{accepted, inUnits}
+use Rattle.doubles.specs.Record.{accepted, unitsAnswer}
 use Rattle.doubles.specs.Code.{partIn}
 use Rattle.doubles.proofs.Value.{power, double-value}
 use Rattle.doubles.proofs.Tests.{minus-power, Below, Cut, cut-says, value-number, accepts, refuses, outside}
@@ -82,20 +82,20 @@ other-says true u e = let z : _≡_ {A = ℕ} 0 1 = cc in absurd (omega arith)
 other-says false u e = refl
 
 module _ (F : ℕ) (d : Doubles) where
-  abbrev nine : InUnits
+  abbrev nine : UnitsAnswer
   nine = record { refusal = pos 9; x = pos 0; y = pos 0 }
 
-  pub both-whole : {a b : ℤ} → partIn F (d .x) ≡ Whole a → partIn F (d .y) ≡ Whole b → inUnits F d ≡ accepted a b
-  unfolding inUnits partIn
+  pub both-whole : {a b : ℤ} → partIn F (d .x) ≡ Whole a → partIn F (d .y) ≡ Whole b → unitsAnswer F d ≡ accepted a b
+  unfolding unitsAnswer partIn
   both-whole p q =
       let k = whole-says (isUnits F (d .x)) (unitsOf F (d .x)) p in
       let l = whole-says (isUnits F (d .y)) (unitsOf F (d .y)) q in
       rw (k .0, l .0, k .1, l .1)
 
-  pub first-other : partIn F (d .x) ≡ Other → inUnits F d ≡ nine
-  unfolding inUnits partIn
+  pub first-other : partIn F (d .x) ≡ Other → unitsAnswer F d ≡ nine
+  unfolding unitsAnswer partIn
   first-other p = rw (other-says (isUnits F (d .x)) (unitsOf F (d .x)) p)
 
-  pub second-other : partIn F (d .y) ≡ Other → inUnits F d ≡ nine
-  unfolding inUnits partIn
+  pub second-other : partIn F (d .y) ≡ Other → unitsAnswer F d ≡ nine
+  unfolding unitsAnswer partIn
   second-other p = rw (and-false (isUnits F (d .x)) (isUnits F (d .y)) (other-says (isUnits F (d .y)) (unitsOf F (d .y)) p))

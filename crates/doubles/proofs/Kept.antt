@@ -23,10 +23,10 @@ use Rattle.logarithm.specs.Answer.{logAnswer}
 use Rattle.logarithm.proofs.Convergence.{most}
 use Rattle.logarithm.proofs.Ranges.{Ranged, log-ranges}
 use Rattle.doubles.specs.declared.Doubles.{Doubles}
-use Rattle.doubles.specs.declared.InDoubles.{InDoubles}
-use Rattle.doubles.specs.declared.InUnits.{InUnits}
+use Rattle.doubles.specs.declared.DoublesAnswer.{DoublesAnswer}
+use Rattle.doubles.specs.declared.UnitsAnswer.{UnitsAnswer}
 use Rattle.doubles.specs.Units.{isNegative, doubleOf, isUnits, unitsOf}
-use Rattle.doubles.specs.Record.{doubles, zeros, inDoubles, accepted, inUnits, Kept, AnswerKept, WrittenBack}
+use Rattle.doubles.specs.Record.{doubles, zeros, doublesAnswer, accepted, unitsAnswer, Kept, AnswerKept, WrittenBack}
 use Rattle.doubles.proofs.Value.{double-value}
 use Rattle.doubles.proofs.Reading.{units-say, read-written, written-read}
 use Rattle.doubles.proofs.Tests.{value-number}
@@ -55,41 +55,41 @@ log-small n x y e = small 48 (lit≤ tt) (subst (Ranged 48 n (gi x y)) e (log-ra
 
 -- ---- NOTHING IS LOST of an answer: each double has its part's value, and the record is read back to the same two numbers
 pub small-kept : (F : ℕ) (p : Point) → Small F p → Kept F p (doubles F (p .x) (p .y))
-unfolding inUnits
+unfolding unitsAnswer
 small-kept F p s =
     let k = read-written F (p .x) (s .x) in
     let l = read-written F (p .y) (s .y) in
     record { x = double-value F (p .x); y = double-value F (p .y); back = rw (k .0, l .0, k .1, l .1) }
 
-answer-kept : (F : ℕ) → 4 ≤ F → (n : ℤ) (p : 𝔾) (a : Answer) → Ranged F n p a → AnswerKept F a (inDoubles F a)
-unfolding inDoubles
+answer-kept : (F : ℕ) → 4 ≤ F → (n : ℤ) (p : 𝔾) (a : Answer) → Ranged F n p a → AnswerKept F a (doublesAnswer F a)
+unfolding doublesAnswer
 answer-kept F wide n p (Answered f) r = small-kept F (f .value) (small F wide (r .value))
 answer-kept F wide n p (Refused e) r = tt
 
-pub log-kept : (n x y : ℤ) → AnswerKept 48 (logAnswer n x y) (inDoubles 48 (logAnswer n x y))
+pub log-kept : (n x y : ℤ) → AnswerKept 48 (logAnswer n x y) (doublesAnswer 48 (logAnswer n x y))
 log-kept n x y = answer-kept 48 (lit≤ tt) n (gi x y) (logAnswer n x y) (log-ranges n x y)
 
 -- an answer in doubles, by its case
 pub answered-is : (F : ℕ) {a : Answer} {f : Figures} → a ≡ Answered f →
-    inDoubles F a ≡ record { refusal = pos 0; parts = doubles F (f .value .x) (f .value .y) }
-unfolding inDoubles
+    doublesAnswer F a ≡ record { refusal = pos 0; parts = doubles F (f .value .x) (f .value .y) }
+unfolding doublesAnswer
 answered-is F e = rw e
 
-pub refused-is : (F : ℕ) {a : Answer} {r : Refusal} → a ≡ Refused r → inDoubles F a ≡ record { refusal = refusalNumber r; parts = zeros }
-unfolding inDoubles
+pub refused-is : (F : ℕ) {a : Answer} {r : Refusal} → a ≡ Refused r → doublesAnswer F a ≡ record { refusal = refusalNumber r; parts = zeros }
+unfolding doublesAnswer
 refused-is F e = rw e
 
 -- what equals the answer in doubles meets both clauses of the call
-pub given : (n x y : ℤ) {r : InDoubles} → r ≡ inDoubles 48 (logAnswer n x y) →
-    (r ≡ inDoubles 48 (logAnswer n x y)) × AnswerKept 48 (logAnswer n x y) r
+pub given : (n x y : ℤ) {r : DoublesAnswer} → r ≡ doublesAnswer 48 (logAnswer n x y) →
+    (r ≡ doublesAnswer 48 (logAnswer n x y)) × AnswerKept 48 (logAnswer n x y) r
 given n x y e = (e, subst (AnswerKept 48 (logAnswer n x y)) (sym e) (log-kept n x y))
 
 -- ---- WHAT IS READ is written back to the same two doubles
-pub read-back : (F : ℕ) → F ≤ 52 → (d : Doubles) → T (fits binary64 (d .x)) → T (fits binary64 (d .y)) → WrittenBack F d (inUnits F d)
-unfolding inUnits
+pub read-back : (F : ℕ) → F ≤ 52 → (d : Doubles) → T (fits binary64 (d .x)) → T (fits binary64 (d .y)) → WrittenBack F d (unitsAnswer F d)
+unfolding unitsAnswer
 read-back F narrow d f g = go (isUnits F (d .x)) (isUnits F (d .y)) refl refl
   where
-    R : Bool → Bool → InUnits
+    R : Bool → Bool → UnitsAnswer
     R a b = cond (a && b)
         (accepted (unitsOf F (d .x)) (unitsOf F (d .y)))
         (record { refusal = pos 9; x = pos 0; y = pos 0 })
@@ -115,6 +115,6 @@ bits-back F narrow b h p =
     ∙ toBits-ofBits binary64 b h (value-number x (isNegative (unitsOf F x)) (natAbs (unitsOf F x)) (2 ^ F) (u .value))
 
 -- what equals a reading meets both clauses of the call
-pub settled : (F : ℕ) → F ≤ 52 → (d : Doubles) {r : InUnits} → fits binary64 (d .x) ≡ true → fits binary64 (d .y) ≡ true → inUnits F d ≡ r →
-    (r ≡ inUnits F d) × WrittenBack F d r
+pub settled : (F : ℕ) → F ≤ 52 → (d : Doubles) {r : UnitsAnswer} → fits binary64 (d .x) ≡ true → fits binary64 (d .y) ≡ true → unitsAnswer F d ≡ r →
+    (r ≡ unitsAnswer F d) × WrittenBack F d r
 settled F narrow d f g e = (sym e, subst (WrittenBack F d) e (read-back F narrow d (subst T (sym f) tt) (subst T (sym g) tt)))

@@ -9,8 +9,8 @@ use Rattle.answer.specs.declared.Answer.{Answer}
 use Rattle.answer.specs.declared.Answer.the-variants.{Answered, Refused}
 use Rattle.answer.specs.Refusal.{refusalNumber}
 use Rattle.doubles.specs.declared.Doubles.{Doubles}
-use Rattle.doubles.specs.declared.InDoubles.{InDoubles}
-use Rattle.doubles.specs.declared.InUnits.{InUnits}
+use Rattle.doubles.specs.declared.DoublesAnswer.{DoublesAnswer}
+use Rattle.doubles.specs.declared.UnitsAnswer.{UnitsAnswer}
 use Rattle.doubles.specs.Units.{HasUnits, doubleOf, isUnits, unitsOf}
 
 -- ---- writing
@@ -23,17 +23,17 @@ abbrev pub zeros : Doubles
 zeros = record { x = fin false 0 (pos 0); y = fin false 0 (pos 0) }
 
 -- "A LOG answer is given as a record of two doubles"; "A refused LOG gives its number and two zeros"
-unfoldable pub inDoubles : ℕ → Answer → InDoubles
-inDoubles F (Answered f) = record { refusal = pos 0; parts = doubles F (f .value .x) (f .value .y) }
-inDoubles F (Refused r) = record { refusal = refusalNumber r; parts = zeros }
+unfoldable pub doublesAnswer : ℕ → Answer → DoublesAnswer
+doublesAnswer F (Answered f) = record { refusal = pos 0; parts = doubles F (f .value .x) (f .value .y) }
+doublesAnswer F (Refused r) = record { refusal = refusalNumber r; parts = zeros }
 
 -- ---- reading
-abbrev pub accepted : ℤ → ℤ → InUnits
+abbrev pub accepted : ℤ → ℤ → UnitsAnswer
 accepted x y = record { refusal = pos 0; x = x; y = y }
 
 -- "Refused: 9, a double of any other kind, with zeros; reading has no other refusal"
-unfoldable pub inUnits : ℕ → Doubles → InUnits
-inUnits F d = cond (isUnits F (d .x) && isUnits F (d .y))
+unfoldable pub unitsAnswer : ℕ → Doubles → UnitsAnswer
+unitsAnswer F d = cond (isUnits F (d .x) && isUnits F (d .y))
     (accepted (unitsOf F (d .x)) (unitsOf F (d .y)))
     (record { refusal = pos 9; x = pos 0; y = pos 0 })
 
@@ -42,13 +42,13 @@ inUnits F d = cond (isUnits F (d .x) && isUnits F (d .y))
 pub record Kept (F : ℕ) (p : Point) (d : Doubles) : Type 0 where
   pub x : HasUnits F (d .x) (p .x)
   pub y : HasUnits F (d .y) (p .y)
-  pub back : inUnits F d ≡ accepted (p .x) (p .y)
+  pub back : unitsAnswer F d ≡ accepted (p .x) (p .y)
 
 -- of an answer, where there is one
-abbrev pub AnswerKept : ℕ → Answer → InDoubles → Type 0
+abbrev pub AnswerKept : ℕ → Answer → DoublesAnswer → Type 0
 AnswerKept F (Answered f) r = Kept F (f .value) (r .parts)
 AnswerKept F (Refused e) r = Unit {0}
 
 -- and the other way: what is read is written as the same two doubles, bit for bit
-abbrev pub WrittenBack : ℕ → Doubles → InUnits → Type 0
+abbrev pub WrittenBack : ℕ → Doubles → UnitsAnswer → Type 0
 WrittenBack F d r = r .refusal ≡ pos 0 → doubles F (r .x) (r .y) ≡ d

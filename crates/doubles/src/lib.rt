@@ -4,7 +4,7 @@ ghost use Prim.Native.Nat.{_^_, _<_};
 ghost use lib.IntN.{natAbs};
 ghost use Rattle.logarithm.specs.Answer.{logAnswer};
 ghost use Rattle.doubles.specs.Units.{doubleOf};
-ghost use Rattle.doubles.specs.Record.{inDoubles, AnswerKept, inUnits, WrittenBack};
+ghost use Rattle.doubles.specs.Record.{doublesAnswer, AnswerKept, unitsAnswer, WrittenBack};
 ghost use Rattle.doubles.specs.Code.{partIn};
 use answer::Answer;
 use point::Point;
@@ -18,14 +18,14 @@ pub struct Doubles {
 
 // LOG's answer: the refusal number or 0, and the two parts.
 #[repr(C)]
-pub struct InDoubles {
+pub struct DoublesAnswer {
     pub refusal: i64,
     pub parts: Doubles,
 }
 
 // Two doubles that were read: 9 or 0, and the two parts in units.
 #[repr(C)]
-pub struct InUnits {
+pub struct UnitsAnswer {
     pub refusal: i64,
     pub x: i64,
     pub y: i64,
@@ -43,7 +43,7 @@ const ONE: f64 = 281474976710656.0;
 const LIMIT: f64 = 562949953421312.0;
 
 // What reading gives where one of the two doubles is not accepted.
-const REFUSED: InUnits = InUnits {
+const REFUSED: UnitsAnswer = UnitsAnswer {
     refusal: 9,
     x: 0,
     y: 0,
@@ -75,8 +75,8 @@ fn read_part(x: f64) -> Part
     Part::Other
 }
 
-pub fn log_doubles(n: i64, p: Point) -> InDoubles
-    ensures answer { λ r. ⌜ r ≡ inDoubles 48 (logAnswer n (p .x) (p .y)) ⌝ }
+pub fn log_doubles(n: i64, p: Point) -> DoublesAnswer
+    ensures answer { λ r. ⌜ r ≡ doublesAnswer 48 (logAnswer n (p .x) (p .y)) ⌝ }
     ensures kept { λ r. ⌜ AnswerKept 48 (logAnswer n (p .x) (p .y)) r ⌝ }
 {
     let answer = logarithm::log(n, p);
@@ -89,18 +89,18 @@ pub fn log_doubles(n: i64, p: Point) -> InDoubles
                 x: write_part(x),
                 y: write_part(y),
             };
-            InDoubles { refusal: 0, parts }
+            DoublesAnswer { refusal: 0, parts }
         }
         Answer::Refused(r) => {
             let refusal = r.number();
             let parts = Doubles { x: 0.0, y: 0.0 };
-            InDoubles { refusal, parts }
+            DoublesAnswer { refusal, parts }
         }
     }
 }
 
-pub fn read_doubles(d: Doubles) -> InUnits
-    ensures answer { λ r. ⌜ r ≡ inUnits 48 d ⌝ }
+pub fn read_doubles(d: Doubles) -> UnitsAnswer
+    ensures answer { λ r. ⌜ r ≡ unitsAnswer 48 d ⌝ }
     ensures back { λ r. ⌜ WrittenBack 48 d r ⌝ }
 {
     let first = read_part(d.x);
@@ -109,7 +109,7 @@ pub fn read_doubles(d: Doubles) -> InUnits
         return REFUSED;
     };
     match second {
-        Part::Whole(y) => InUnits { refusal: 0, x, y },
+        Part::Whole(y) => UnitsAnswer { refusal: 0, x, y },
         Part::Other => REFUSED,
     }
 }

@@ -19,8 +19,8 @@ extern "C" {
         len: usize,
     ) -> i64;
     fn bkm_step_entry(n: usize, dx: i64, dy: i64, part: usize) -> i64;
-    fn bkm_log_doubles(n: i64, x: i64, y: i64) -> InDoubles;
-    fn bkm_read_doubles(doubles: Doubles) -> InUnits;
+    fn bkm_log_doubles(n: i64, x: i64, y: i64) -> DoublesAnswer;
+    fn bkm_read_doubles(doubles: Doubles) -> UnitsAnswer;
 }
 
 // The structs of include/bkm.h, which go by value.
@@ -32,13 +32,13 @@ struct Doubles {
 }
 
 #[repr(C)]
-struct InDoubles {
+struct DoublesAnswer {
     refusal: i64,
     parts: Doubles,
 }
 
 #[repr(C)]
-struct InUnits {
+struct UnitsAnswer {
     refusal: i64,
     x: i64,
     y: i64,
@@ -84,7 +84,7 @@ pub fn step_entry(n: usize, dx: i64, dy: i64) -> (i64, i64) {
 pub fn log_doubles(input: logarithm::Input) -> (i64, [u64; 2]) {
     let logarithm::Input { n, x, y } = input;
     // SAFETY: the call takes numbers alone.
-    let InDoubles { refusal, parts: Doubles { x, y } } = unsafe { bkm_log_doubles(n, x, y) };
+    let DoublesAnswer { refusal, parts: Doubles { x, y } } = unsafe { bkm_log_doubles(n, x, y) };
     (refusal, [x, y].map(f64::to_bits))
 }
 
@@ -93,7 +93,7 @@ pub fn log_doubles(input: logarithm::Input) -> (i64, [u64; 2]) {
 pub fn read_doubles(bits: [u64; 2]) -> [i64; 3] {
     let [x, y] = bits.map(f64::from_bits);
     // SAFETY: as above.
-    let InUnits { refusal, x, y } = unsafe { bkm_read_doubles(Doubles { x, y }) };
+    let UnitsAnswer { refusal, x, y } = unsafe { bkm_read_doubles(Doubles { x, y }) };
     [refusal, x, y]
 }
 

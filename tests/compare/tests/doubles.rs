@@ -2,7 +2,7 @@
 //! implementation, bit by bit.
 
 use compare::{log_doubles, numbers, observed, read_doubles};
-use reference::doubles::{bits_of, in_doubles, in_units, units_of};
+use reference::doubles::{bits_of, doubles_answer, units_answer, units_of};
 use reference::edges::{doubles, log_refusals, ONE};
 use reference::logarithm::log;
 use reference::samples::{double, log_input, Random};
@@ -21,7 +21,7 @@ fn answers() {
     let mut met = [0; 5];
     for input in drawn.chain(limits) {
         let given = log_doubles(input);
-        assert_eq!(given, in_doubles(log(input, W), W), "{input:?}");
+        assert_eq!(given, doubles_answer(log(input, W), W), "{input:?}");
         let [refusal, x, y, ..] = numbers(observed(|out| compare::log(input, out)));
         assert_eq!(given.0, refusal, "{input:?}");
         assert_eq!(read_doubles(given.1), [0, x, y], "{input:?}");
@@ -35,7 +35,7 @@ fn answers() {
 /// same bits, by that and by the processor. Whether it is accepted.
 fn check(bits: [u64; 2]) -> bool {
     let read = read_doubles(bits);
-    assert_eq!(read, in_units(bits, W), "{bits:016x?}");
+    assert_eq!(read, units_answer(bits, W), "{bits:016x?}");
     let [refusal, x, y] = read;
     if refusal == 0 {
         assert_eq!([x, y].map(|part| bits_of(part, W)), bits);
@@ -117,7 +117,7 @@ fn faults_show() {
     type Reading = fn([u64; 2]) -> [i64; 3];
     let faults: [(&str, Reading); 7] = [
         ("minus zero accepted", |bits| {
-            in_units(bits.map(|x| if x == MINUS_ZERO { 0 } else { x }), W)
+            units_answer(bits.map(|x| if x == MINUS_ZERO { 0 } else { x }), W)
         }),
         ("2^49 accepted", |bits| {
             match bits.map(|x| if x == TWO { Some(2 * ONE) } else { units_of(x, W) }) {
@@ -130,19 +130,19 @@ fn faults_show() {
             [0, x, y]
         }),
         ("another scale", |bits| {
-            let [refusal, x, y] = in_units(bits, W);
+            let [refusal, x, y] = units_answer(bits, W);
             [refusal, 2 * x, 2 * y]
         }),
         ("parts exchanged", |bits| {
-            let [refusal, x, y] = in_units(bits, W);
+            let [refusal, x, y] = units_answer(bits, W);
             [refusal, y, x]
         }),
-        ("the first part kept", |[x, y]| match in_units([x, y], W) {
+        ("the first part kept", |[x, y]| match units_answer([x, y], W) {
             [9, ..] => [9, units_of(x, W).unwrap_or(0), 0],
             read => read,
         }),
         ("what is not a number taken for nought", |bits| {
-            in_units(bits.map(|x| if f64::from_bits(x).is_nan() { 0 } else { x }), W)
+            units_answer(bits.map(|x| if f64::from_bits(x).is_nan() { 0 } else { x }), W)
         }),
     ];
     for (fault, reading) in faults {

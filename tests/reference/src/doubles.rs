@@ -46,13 +46,13 @@ pub fn units_of(bits: u64, width: Width) -> Option<i64> {
 }
 
 /// What LOG's call for doubles hands back: the refusal number or 0, and the bits of two doubles.
-pub fn in_doubles(answer: Answer, width: Width) -> (i64, [u64; 2]) {
+pub fn doubles_answer(answer: Answer, width: Width) -> (i64, [u64; 2]) {
     let [refusal, x, y, ..] = record(answer);
     (refusal, [x, y].map(|part| bits_of(part, width)))
 }
 
 /// What reading hands back: the refusal number or 0, and two numbers of units.
-pub fn in_units(bits: [u64; 2], width: Width) -> [i64; 3] {
+pub fn units_answer(bits: [u64; 2], width: Width) -> [i64; 3] {
     match bits.map(|bits| units_of(bits, width)) {
         [Some(x), Some(y)] => [0, x, y],
         _ => [Refusal::Double as i64, 0, 0],
