@@ -5,6 +5,7 @@ use crate::effort::Effort;
 use crate::operation::Operation;
 use crate::rounds::{rows, Contender};
 use crate::table::print_table;
+use plain::c::{Version, VERSION};
 use plain::doubles::{Doubles, DoublesAnswer, UnitsAnswer};
 use reference::answer::RECORD_BYTES;
 use reference::logarithm::Input as Log;
@@ -25,19 +26,35 @@ fn of_bits(bits: [u64; 2]) -> Doubles {
     Doubles { x, y }
 }
 
+// Every version by its bits and numbers, as the product's calls are wrapped.
+
+fn plain_log(i: Log) -> (i64, [u64; 2]) {
+    bits(plain::doubles::log_doubles(i.n, i.x, i.y))
+}
+
+fn plain_read(pattern: [u64; 2]) -> [i64; 3] {
+    numbers(plain::doubles::read_doubles(of_bits(pattern)))
+}
+
+fn c_log(c: &Version, i: Log) -> (i64, [u64; 2]) {
+    bits((c.log_doubles)(i.n, i.x, i.y))
+}
+
+fn c_read(c: &Version, pattern: [u64; 2]) -> [i64; 3] {
+    numbers((c.read_doubles)(of_bits(pattern)))
+}
+
 fn compare_versions(effort: &Effort) {
     let mut random = Random::new(33);
     for _ in 0..effort.compared {
-        let i = log_input(&mut random, WIDTH_48);
+        let input = log_input(&mut random, WIDTH_48);
         let pattern = [(); 2].map(|_| double(&mut random, WIDTH_48));
-        let (given, read) = (compare::log_doubles(i), compare::read_doubles(pattern));
-        let wanted = bits(plain::doubles::log_doubles(i.n, i.x, i.y));
-        assert_eq!(given, wanted, "plain Rust: {i:?}");
-        let wanted = numbers(plain::doubles::read_doubles(of_bits(pattern)));
-        assert_eq!(read, wanted, "plain Rust: {pattern:x?}");
-        if let Some(c) = plain::c::VERSION {
-            assert_eq!(given, bits((c.log_doubles)(i.n, i.x, i.y)), "plain C: {i:?}");
-            assert_eq!(read, numbers((c.read_doubles)(of_bits(pattern))), "plain C: {pattern:x?}");
+        let (given, read) = (compare::log_doubles(input), compare::read_doubles(pattern));
+        assert_eq!(given, plain_log(input), "plain Rust: {input:?}");
+        assert_eq!(read, plain_read(pattern), "plain Rust: {pattern:x?}");
+        if let Some(c) = &VERSION {
+            assert_eq!(given, c_log(c, input), "plain C: {input:?}");
+            assert_eq!(read, c_read(c, pattern), "plain C: {pattern:x?}");
         }
     }
 }
@@ -64,10 +81,10 @@ pub fn race(effort: &Effort) {
         let inputs: Vec<_> = (0..effort.batch).map(|_| Log::everyday(&mut random, n)).collect();
         let mut contenders = vec![
             batch("bkm_log_doubles", &inputs, compare::log_doubles),
-            batch("plain Rust", &inputs, |i| plain::doubles::log_doubles(i.n, i.x, i.y)),
+            batch("plain Rust", &inputs, plain_log),
         ];
-        if let Some(c) = plain::c::VERSION {
-            contenders.push(batch("plain C", &inputs, move |i| (c.log_doubles)(i.n, i.x, i.y)));
+        if let Some(c) = VERSION {
+            contenders.push(batch("plain C", &inputs, move |input| c_log(&c, input)));
         }
         contenders.push(batch("bkm_log, a record", &inputs, |i| {
             let mut out = [0; RECORD_BYTES];
@@ -80,10 +97,10 @@ pub fn race(effort: &Effort) {
     let answers: Vec<_> = inputs.map(|input| compare::log_doubles(input).1).collect();
     let mut contenders = vec![
         batch("bkm_read_doubles", &answers, compare::read_doubles),
-        batch("plain Rust", &answers, |bits| plain::doubles::read_doubles(of_bits(bits))),
+        batch("plain Rust", &answers, plain_read),
     ];
-    if let Some(c) = plain::c::VERSION {
-        contenders.push(batch("plain C", &answers, move |bits| (c.read_doubles)(of_bits(bits))));
+    if let Some(c) = VERSION {
+        contenders.push(batch("plain C", &answers, move |pattern| c_read(&c, pattern)));
     }
     all.extend(rows(contenders, effort.rounds, effort.batch, "reading"));
     print_table(
