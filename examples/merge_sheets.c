@@ -3,7 +3,10 @@
  *     gcc -Iinclude examples/merge_sheets.c target/staticlib/libcontroller.a -o target/merge_sheets
  *     target/merge_sheets first.sheet second.sheet > both.sheet
  *
- * A refusal is said on standard error and nothing is written; the exit status is its number.
+ * A refusal is said on standard error, with the line that it is due to, and nothing is written; the
+ * exit status is its number:
+ *
+ *     merge_sheets: second.sheet, line 3: malformed (5)
  */
 #include "bkm.h"
 
@@ -52,11 +55,22 @@ static struct bytes contents(const char *name)
 static const char *reason(int64_t refusal)
 {
     switch (refusal) {
-    case 5: return "a line is malformed";
-    case 7: return "a number falls or is repeated within a sheet";
-    case 8: return "one number has two differing lines";
-    default: return "the output is too short";
+    case BKM_REFUSED_LINE: return "malformed";
+    case BKM_REFUSED_SERIAL: return "its number is not above the one before it";
+    case BKM_REFUSED_CLASH: return "the other sheet has a differing line under its number";
+    default: return "refused";
     }
+}
+
+/* Says which lines stop the merge. */
+static int refused(char **names, const struct bytes *sheets)
+{
+    const bkm_stop stop = bkm_merge_stopped_at(sheets[0].at, sheets[0].count, sheets[1].at, sheets[1].count);
+    const size_t lines[2] = {stop.first, stop.second};
+    for (int i = 0; i < 2; i++)
+        if (lines[i] > 0)
+            fprintf(stderr, "merge_sheets: %s, line %zu: %s (%d)\n", names[i], lines[i], reason(stop.refusal), (int)stop.refusal);
+    return (int)stop.refusal;
 }
 
 int main(int count, char **names)
@@ -76,10 +90,8 @@ int main(int count, char **names)
     if (!out)
         return fail("memory");
     int64_t written = bkm_merge(sheets[0].at, sheets[0].count, sheets[1].at, sheets[1].count, out, room);
-    if (written < 0) {
-        fprintf(stderr, "merge_sheets: refused with %d: %s\n", (int)-written, reason(-written));
-        return (int)-written;
-    }
+    if (written < 0)
+        return refused(names + 1, sheets);
     if (fwrite(out, 1, (size_t)written, stdout) != (size_t)written || fflush(stdout))
         return fail("standard output");
     return 0;

@@ -27,16 +27,17 @@ int main(void) {
     const long double most = larger(start) / ONE;
     printf(" N    units off by          at most | times e^remainder  at most\n");
     for (int64_t n = 5; n <= 40; n += 5) {
-        /* A machine that stores the low byte first reads the record as it is. */
-        int64_t record[8];
-        int64_t refusal = bkm_exp(n, ex, ey, sx, sy, (uint8_t *)record, sizeof record);
+        uint8_t bytes[BKM_RECORD_BYTES];
+        int64_t refusal = bkm_exp(n, ex, ey, sx, sy, bytes, sizeof bytes);
         if (refusal != 0) {
             fprintf(stderr, "refused with %" PRId64 "\n", refusal);
             return 1;
         }
         /* Inside the rectangle k is 0. */
-        const long double complex answer = pair(record[1], record[2]), left = pair(record[6], record[7]) / ONE;
-        printf("%2" PRId64 "%16.0Lf %16" PRId64 " |%18.0Lf %8.0Lf\n", n, larger(answer - exact), record[5],
+        const bkm_record record = bkm_read_record(bytes);
+        const long double complex answer = pair(record.x, record.y);
+        const long double complex left = pair(record.remainder_x, record.remainder_y) / ONE;
+        printf("%2" PRId64 "%16.0Lf %16" PRId64 " |%18.0Lf %8.0Lf\n", n, larger(answer - exact), record.error_bound,
                larger(answer * cexpl(left) - exact), ceill((12 * n + 51) * most + 2 * n + 3));
     }
     return 0;

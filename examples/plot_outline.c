@@ -44,21 +44,21 @@ static const char *const tail = "END\n"
 
 /* One point of the script: LOG's parts come as doubles, k and q from its record. */
 static int plot(int64_t x, int64_t y) {
-    /* A machine that stores the low byte first reads the record as it is. */
-    int64_t record[8];
-    bkm_log(STEPS, x, y, (uint8_t *)record, sizeof record);
+    uint8_t bytes[BKM_RECORD_BYTES];
+    bkm_log(STEPS, x, y, bytes, sizeof bytes);
+    bkm_record record = bkm_read_record(bytes);
     bkm_doubles_answer log = bkm_log_doubles(STEPS, x, y);
     if (log.refusal != 0) {
         fprintf(stderr, "refused with %" PRId64 "\n", log.refusal);
         return 1;
     }
     bkm_units_answer back = bkm_read_doubles(log.parts);
-    if (back.refusal != 0 || back.x != record[1] || back.y != record[2]) {
+    if (back.refusal != 0 || back.x != record.x || back.y != record.y) {
         fprintf(stderr, "the doubles are not the record's parts\n");
         return 1;
     }
-    double angle = log.parts.y * RADIAN + (double)record[4] * QUARTER;
-    double length = log.parts.x + (double)record[3] * LN_2;
+    double angle = log.parts.y * RADIAN + (double)record.q * QUARTER;
+    double length = log.parts.x + (double)record.k * LN_2;
     printf("%.6f %.6f %.17g %.17g\n", (double)x / ONE, (double)y / ONE, angle, length);
     return 0;
 }

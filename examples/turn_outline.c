@@ -17,25 +17,18 @@ static const double outline[][2] = {
     {-0.95, 0.00}, {-0.85, -0.24}, {-0.45, -0.42}, {-0.15, -0.38}, {0.00, -0.29}, {0.35, -0.36},
 };
 
-/* Number i of a record: eight bytes, the low one first. */
-static int64_t number(const uint8_t *record, int i) {
-    uint64_t bits = 0;
-    for (int byte = 7; byte >= 0; byte--)
-        bits = bits << 8 | record[8 * i + byte];
-    return (int64_t)bits;
-}
-
 int main(void) {
     for (size_t i = 0; i < sizeof outline / sizeof *outline; i++) {
         int64_t x = (int64_t)(outline[i][0] * ONE), y = (int64_t)(outline[i][1] * ONE);
-        uint8_t record[64];
-        int64_t refusal = bkm_exp(STEPS, 0, (int64_t)(0.5 * ONE), x, y, record, sizeof record);
+        uint8_t bytes[BKM_RECORD_BYTES];
+        int64_t refusal = bkm_exp(STEPS, 0, (int64_t)(0.5 * ONE), x, y, bytes, sizeof bytes);
         if (refusal != 0) {
             fprintf(stderr, "point %zu: refused with %" PRId64 "\n", i, refusal);
             return 1;
         }
-        printf("%+.13f %+.13f, each to %.1e\n", (double)number(record, 1) / ONE,
-               (double)number(record, 2) / ONE, (double)number(record, 5) / ONE);
+        bkm_record turned = bkm_read_record(bytes);
+        printf("%+.13f %+.13f, each to %.1e\n", (double)turned.x / ONE, (double)turned.y / ONE,
+               (double)turned.error_bound / ONE);
     }
     return 0;
 }

@@ -21,21 +21,13 @@ static void check(const char *what, int good)
     }
 }
 
-/* Number i of a record: eight bytes, the low one first. */
-static int64_t number(const uint8_t *record, int i)
-{
-    uint64_t bits = 0;
-    for (int j = 7; j >= 0; j--)
-        bits = bits << 8 | record[8 * i + j];
-    int64_t value;
-    memcpy(&value, &bits, sizeof value);
-    return value;
-}
-
+/* The record holds these eight numbers; read number by number and as a struct. */
 static int holds(const uint8_t *out, const int64_t wanted[8])
 {
+    const bkm_record r = bkm_read_record(out);
+    const int64_t read[8] = {r.refusal, r.x, r.y, r.k, r.q, r.error_bound, r.remainder_x, r.remainder_y};
     for (int i = 0; i < 8; i++)
-        if (number(out, i) != wanted[i])
+        if (bkm_number(out, i) != wanted[i] || read[i] != wanted[i])
             return 0;
     return 1;
 }
@@ -49,6 +41,13 @@ static int refused(const uint8_t *out, int64_t refusal)
 static int unread(bkm_units_answer read)
 {
     return read.refusal == 9 && read.x == 0 && read.y == 0;
+}
+
+/* What stops the merge of a and b, and the lines that it is due to. */
+static int stops(const uint8_t *a, size_t length, const char *b, int64_t refusal, size_t first, size_t second)
+{
+    const bkm_stop stop = bkm_merge_stopped_at(a, length, (const uint8_t *)b, strlen(b));
+    return stop.refusal == refusal && stop.first == first && stop.second == second;
 }
 
 static int all(const uint8_t *bytes, size_t length, uint8_t value)
@@ -69,26 +68,30 @@ int main(void)
     check("and the start, with the column 2128 and nothing left over", holds(out, (const int64_t[8]){0, one, 0, 0, 0, 2128, 0, 0}));
     check("bytes past the 64 keep their values", all(out + 64, 16, 0xa5));
 
-    check("N = 0 is refused before the exponent", bkm_exp(0, INT64_MAX, 0, one, 0, out, 64) == 1 && refused(out, 1));
-    check("an exponent past 55/64 is taken: k is 1", bkm_exp(40, INT64_C(241892558110721), 0, one, 0, out, 64) == 0 && number(out, 3) == 1);
-    check("an exponent of 8 - 8i", bkm_exp(40, eight, -eight, one, 0, out, 64) == 0 && holds(out, (const int64_t[8]){0, -INT64_C(29805663453324), -INT64_C(202669911213431), 12, 0, 2128, -96, 119}));
-    check("an exponent past 8", bkm_exp(40, eight + 1, 0, one, 0, out, 64) == 2 && refused(out, 2));
-    check("and past -8", bkm_exp(40, 0, -eight - 1, one, 0, out, 64) == 2 && refused(out, 2));
-    check("a start of -2^63", bkm_exp(40, 0, 0, INT64_MIN, 0, out, 64) == 3 && refused(out, 3));
-    check("a start of 2^58 is taken", bkm_exp(1, 0, 0, most, -most, out, 64) == 0);
+    check("N = 0 is refused before the exponent", bkm_exp(0, INT64_MAX, 0, one, 0, out, BKM_RECORD_BYTES) == 1 && refused(out, 1));
+    check("an exponent past 55/64 is taken: k is 1", bkm_exp(40, INT64_C(241892558110721), 0, one, 0, out, BKM_RECORD_BYTES) == 0 && bkm_read_record(out).k == 1);
+    check("an exponent of 8 - 8i", bkm_exp(40, eight, -eight, one, 0, out, BKM_RECORD_BYTES) == 0 && holds(out, (const int64_t[8]){0, -INT64_C(29805663453324), -INT64_C(202669911213431), 12, 0, 2128, -96, 119}));
+    check("p is made with Q: at 4.5 of it, less half a unit, it is 4, and M is one",
+          bkm_exp(40, 0, INT64_C(994814683879000), one, one, out, BKM_RECORD_BYTES) == 0 && bkm_read_record(out).error_bound == 2128);
+    check("half a unit past that it is 5, and M is two",
+          bkm_exp(40, 0, INT64_C(994814683879001), one, one, out, BKM_RECORD_BYTES) == 0 && bkm_read_record(out).error_bound == 4176);
+    check("an exponent past 8", bkm_exp(40, eight + 1, 0, one, 0, out, BKM_RECORD_BYTES) == 2 && refused(out, 2));
+    check("and past -8", bkm_exp(40, 0, -eight - 1, one, 0, out, BKM_RECORD_BYTES) == 2 && refused(out, 2));
+    check("a start of -2^63", bkm_exp(40, 0, 0, INT64_MIN, 0, out, BKM_RECORD_BYTES) == 3 && refused(out, 3));
+    check("a start of 2^58 is taken", bkm_exp(1, 0, 0, most, -most, out, BKM_RECORD_BYTES) == 0);
 
-    check("LOG of one: k is 1 and q is 0", bkm_log(40, one, 0, out, 64) == 0 && number(out, 3) == 1 && number(out, 4) == 0);
-    check("with N = 3 it comes to (1080 - 63i)/1024", bkm_log(3, one, 0, out, 64) == 0 && number(out, 6) == 56 * (one >> 10) && number(out, 7) == -63 * (one >> 10));
-    check("LOG of (5, -5): q is -1", bkm_log(40, 5, -5, out, 64) == 0 && number(out, 4) == -1);
-    check("LOG of (-1, 0), straight to the left: q is 2", bkm_log(40, -1, 0, out, 64) == 0 && number(out, 4) == 2);
-    check("LOG of (-5, 1): q is 2", bkm_log(40, -5, 1, out, 64) == 0 && number(out, 4) == 2);
-    check("LOG of (-5, -1): q is -2", bkm_log(40, -5, -1, out, 64) == 0 && number(out, 4) == -2);
-    check("LOG of zero", bkm_log(40, 0, 0, out, 64) == 4 && refused(out, 4));
-    check("LOG with N = 2", bkm_log(2, one, 0, out, 64) == 1 && refused(out, 1));
+    check("LOG of one: k is 1 and q is 0", bkm_log(40, one, 0, out, BKM_RECORD_BYTES) == 0 && bkm_read_record(out).k == 1 && bkm_read_record(out).q == 0);
+    check("with N = 3 it comes to (1080 - 63i)/1024", bkm_log(3, one, 0, out, BKM_RECORD_BYTES) == 0 && bkm_read_record(out).remainder_x == 56 * (one >> 10) && bkm_read_record(out).remainder_y == -63 * (one >> 10));
+    check("LOG of (5, -5): q is -1", bkm_log(40, 5, -5, out, BKM_RECORD_BYTES) == 0 && bkm_read_record(out).q == -1);
+    check("LOG of (-1, 0), straight to the left: q is 2", bkm_log(40, -1, 0, out, BKM_RECORD_BYTES) == 0 && bkm_read_record(out).q == 2);
+    check("LOG of (-5, 1): q is 2", bkm_log(40, -5, 1, out, BKM_RECORD_BYTES) == 0 && bkm_read_record(out).q == 2);
+    check("LOG of (-5, -1): q is -2", bkm_log(40, -5, -1, out, BKM_RECORD_BYTES) == 0 && bkm_read_record(out).q == -2);
+    check("LOG of zero", bkm_log(40, 0, 0, out, BKM_RECORD_BYTES) == 4 && refused(out, 4));
+    check("LOG with N = 2", bkm_log(2, one, 0, out, BKM_RECORD_BYTES) == 1 && refused(out, 1));
 
     memset(out, 0x5a, sizeof out);
     check("63 bytes are refused with 6", bkm_exp(0, 0, 0, 0, 0, out, 63) == 6 && bkm_log(0, 0, 0, out, 63) == 6);
-    check("and so is no buffer at all", bkm_exp(40, 0, 0, one, 0, out, 0) == 6);
+    check("and so is no buffer at all", bkm_exp(40, 0, 0, one, 0, NULL, 0) == BKM_REFUSED_ROOM && bkm_log(40, one, 0, NULL, 0) == BKM_REFUSED_ROOM);
     check("and nothing is written", all(out, sizeof out, 0x5a));
 
     const char *line = "1\tEXP\t40\t0\t0\t281474976710656\t0", *answer = "1\tEXP\t40\t281474976710656\t0\t0\t0\t0\t2128\n";
@@ -100,7 +103,11 @@ int main(void)
     check("and the same one again: numbers rise on a sheet, and the call knows of none",
           bkm_line((const uint8_t *)line, strlen(line), text, sizeof text) == length && memcmp(text, answer, length) == 0);
     check("an empty line is malformed", bkm_line((const uint8_t *)line, 0, text, sizeof text) == 8 && memcmp(text, "0\tREF\t5\n", 8) == 0);
-    check("127 bytes are too few for a line", bkm_line((const uint8_t *)line, strlen(line), text, 127) == 0);
+    check("and so is one that stands nowhere", bkm_line(NULL, 0, text, sizeof text) == 8 && memcmp(text, "0\tREF\t5\n", 8) == 0);
+    memset(text, 0x5a, sizeof text);
+    check("127 bytes are too few for a line", bkm_line((const uint8_t *)line, strlen(line), text, BKM_ANSWER_ROOM - 1) == 0);
+    check("and nothing is written", all(text, sizeof text, 0x5a));
+    check("nor with no buffer at all", bkm_line((const uint8_t *)line, strlen(line), NULL, 0) == 0);
 
     const char *first = "1\tLOG\t3\t1\t0\n3\tLOG\t3\t1\t0", *second = "2\tLOG\t3\t0\t1\n3\tLOG\t3\t1\t0\n";
     const char *both = "1\tLOG\t3\t1\t0\n2\tLOG\t3\t0\t1\n3\tLOG\t3\t1\t0\n";
@@ -114,15 +121,22 @@ int main(void)
     check("two differing lines under one number", bkm_merge(a, n1, (const uint8_t *)"3\tLOG\t4\t1\t0", 11, text, sizeof text) == -8);
     check("a sheet behind itself, or cut", bkm_merge((const uint8_t *)both + 12, n - 12, b, n2 - 2, text, sizeof text) == -5);
     check("and no refusal writes", all(text, sizeof text, 0x5a));
+    check("two empty sheets, which stand nowhere, are merged into none", bkm_merge(NULL, 0, NULL, 0, text, 2) == 0 && bkm_merge(NULL, 0, NULL, 0, NULL, 0) == -6);
+    check("and a sheet with itself is that sheet", bkm_merge((const uint8_t *)both, n, (const uint8_t *)both, n, text, sizeof text) == (int64_t)n && memcmp(text, both, n) == 0);
+    check("the clash is due to line 2 of the one and line 1 of the other", stops(a, n1, "3\tLOG\t4\t1\t0", BKM_REFUSED_CLASH, 2, 1));
+    check("a malformed line to its sheet alone", stops(a, n1, "4\tLOG\t4\t1\t0\n\n", BKM_REFUSED_LINE, 0, 2));
+    check("a number that falls likewise", stops(a, n1, "2\tLOG\t4\t1\t0\n1\tLOG\t4\t1\t0\n", BKM_REFUSED_SERIAL, 0, 2));
+    check("two malformed lines at the top to both sheets", stops((const uint8_t *)"x", 1, "\n", BKM_REFUSED_LINE, 1, 1));
+    check("and nothing to none", stops(a, n1, second, 0, 0, 0) && stops(NULL, 0, "", 0, 0, 0));
     check("the entry of n = 1, d = -1", bkm_step_entry(1, -1, 0, 0) == -INT64_C(195103586505167) && bkm_step_entry(1, -1, 0, 1) == 0);
 
     const bkm_doubles zeros = {0.0, 0.0};
     bkm_doubles_answer given = bkm_log_doubles(40, one, 0);
     bkm_units_answer back = bkm_read_doubles(given.parts);
-    bkm_log(40, one, 0, out, 64);
+    bkm_log(40, one, 0, out, BKM_RECORD_BYTES);
     check("LOG of one in doubles: its parts over 2^48",
-          given.refusal == 0 && given.parts.x == ldexp((double)number(out, 1), -48) && given.parts.y == ldexp((double)number(out, 2), -48));
-    check("and read back", back.refusal == 0 && back.x == number(out, 1) && back.y == number(out, 2));
+          given.refusal == 0 && given.parts.x == ldexp((double)bkm_read_record(out).x, -48) && given.parts.y == ldexp((double)bkm_read_record(out).y, -48));
+    check("and read back", back.refusal == 0 && back.x == bkm_read_record(out).x && back.y == bkm_read_record(out).y);
     given = bkm_log_doubles(40, 0, 0);
     check("LOG of zero in doubles: its number and plus zero twice", given.refusal == 4 && memcmp(&given.parts, &zeros, sizeof zeros) == 0);
     check("N and the point are refused in their order", bkm_log_doubles(2, INT64_MIN, 0).refusal == 1 && bkm_log_doubles(40, INT64_MIN, 0).refusal == 3);

@@ -1,9 +1,10 @@
 #!/usr/bin/env python3
 """Holds the house to its order; the gate fails where it does not hold.
 
-1. What must be believed rests on definitions alone: no file of specs/ and no contract cites a module of proofs/, of any crate.
+1. What must be believed rests on definitions alone: no file of specs/ and no contract cites a module of proofs/, of any crate, by a `use`
+   or by a name written out.
 2. Nothing is kept that serves nobody: what no source, specification or proof cites outside its own definition is a result for a reader, and
-   docs/GUIDE.md names it, or it is to go.
+   docs/GUIDE.md names it, or it is to go. A public function that no other source calls is for a caller, and docs/GUIDE.md names it.
 3. README.md says how many lines there are to believe: the specs/ of all crates, imports, `mod` and blank lines aside, but for Code.antt,
    which only private contracts cite, for the listed numbers, and for the cases of `edges`, on which nothing rests.
 """
@@ -34,9 +35,27 @@ def believed():
 
 
 def resting_on_proofs():
-    cite = re.compile(r"^(?:ghost )?use Rattle·\w+(?:·proofs)?\.proofs\.(?!.*\.declared\.)")
-    files = sorted(ROOT.glob("crates/*/specs/*.antt")) + sorted(ROOT.glob("crates/*/src/**/*.rt"))
-    return [f"{p.relative_to(ROOT)}: {line}" for p in files for line in read(p).split("\n") if cite.match(line)]
+    """A module of proofs/, wherever it is named outside a comment; what the code declares stands there too and is no proof."""
+    cite = re.compile(r"Rattle·\w+(?:·proofs)?\.proofs\.(?!(?:\w+\.)*declared\.)")
+    files = sorted(ROOT.glob("crates/*/specs/**/*.antt")) + sorted(ROOT.glob("crates/*/src/**/*.rt"))
+    return [f"{p.relative_to(ROOT)}: {line.strip()}" for p in files for line in read(p).split("\n")
+            if cite.search(re.split(r"(?:^|\s)(?:--|//)", line)[0])]
+
+
+def uncalled():
+    """Public functions, methods included, that stand in no other line of source and that the guide does not name."""
+    named = set(re.findall(r"\w+", " ".join(re.findall(r"`([^`]+)`", read(ROOT / "docs/GUIDE.md")))))
+    lines = [(path, line) for path in sorted(ROOT.glob("crates/*/src/**/*.rt")) for line in read(path).split("\n")
+             if not line.lstrip().startswith(("//", "ghost use"))]
+    declared = re.compile(r"\s*pub (?:extern \"C\" )?fn (\w+)")
+    found = []
+    for path, line in lines:
+        name = declared.match(line)
+        if name and name[1] not in named:
+            calls = re.compile(rf"(?<!fn )\b{name[1]}\(")
+            if not any(calls.search(other) for _, other in lines):
+                found.append(f"{path.relative_to(ROOT)}: {name[1]}")
+    return found
 
 
 def words(text):
@@ -109,7 +128,12 @@ def main():
     said = re.search(r"(\d+) lines to believe", read(ROOT / "README.md"))
     count = [] if said and int(said.group(1)) == lines else [f"README.md: there are {lines} lines to believe"]
     faults = 0
-    for title, found in (("rests on proofs", resting_on_proofs()), ("nothing cites it, and the guide does not name it", uncited()), ("not so", count)):
+    for title, found in (
+        ("rests on proofs", resting_on_proofs()),
+        ("nothing cites it, and the guide does not name it", uncited()),
+        ("nothing calls it, and the guide does not name it", uncalled()),
+        ("not so", count),
+    ):
         for fault in found:
             print(f"{title}: {fault}")
         faults += len(found)

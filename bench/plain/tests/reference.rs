@@ -5,7 +5,7 @@ use plain::{c, engines, merge, sheet};
 use reference::answer::{write_record, RECORD_BYTES};
 use reference::damage::{every_damage, longest_line, merges};
 use reference::doubles::{doubles_answer, units_answer};
-use reference::edges::{exp_refusals, exp_scales, far_exp_records, EXP, LOG};
+use reference::edges::{exp_eighths, exp_refusals, exp_scales, far_exp_records, EXP, LOG};
 use reference::merge::merge_into;
 use reference::samples::{self, double, exp_input, line, log_input, Random};
 use reference::width::WIDTH_48 as W;
@@ -26,7 +26,8 @@ fn outcome(call: impl FnOnce(&mut [u8]) -> i64) -> (i64, [u8; RECORD_BYTES]) {
 fn exp() {
     let mut random = Random::new(11);
     let drawn = (0..SAMPLES).map(|_| exp_input(&mut random, W));
-    let edges = exp_refusals().into_iter().chain(exp_scales()).map(|(input, _)| input);
+    let edges = exp_refusals().into_iter().chain(exp_scales()).chain(exp_eighths());
+    let edges = edges.map(|(input, _)| input);
     let reduced_to_nought = far_exp_records().into_iter().map(|(input, _)| input);
     for i in drawn.chain(edges).chain(reduced_to_nought) {
         let ours = outcome(|out| engines::exp_record(i.n, i.ex, i.ey, i.sx, i.sy, out));

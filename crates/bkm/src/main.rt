@@ -6,6 +6,7 @@ ghost use lib.ListN.{length};
 ghost use Rattle.text.specs.Answer.{answer-room};
 ghost use Rattle.stream.specs.Machine.{cut, placeAfter};
 ghost use Rattle.stream.specs.Sheet.{machine, placeOf};
+use libc::STDERR_FILENO;
 use libc::STDIN_FILENO;
 use libc::STDOUT_FILENO;
 use stream::Place;
@@ -51,6 +52,13 @@ fn answer_block(place: Place, block: &[u8], out: &mut [u8]) -> Answered
 }
 
 fn main() {
+    if 1 < os::arg_count() {
+        io::write_all(
+            STDERR_FILENO,
+            b"bkm: reads a sheet on standard input and takes no argument, as in: bkm < SHEET\n",
+        );
+        return;
+    }
     let mut block = [0u8; 65536];
     let mut out = [0u8; 65536];
     let n = stream::open(&mut out);

@@ -1,8 +1,9 @@
 // The calls for C: EXP and LOG on plain numbers, 64 bytes into a lent buffer; LOG in doubles, and doubles read back; a line of a sheet; two
-// sheets merged; an entry of the step table.
+// sheets merged, and which lines such a merge refuses; an entry of the step table.
 // include/bkm.h is the contract in plain words.
 ghost use mathlib.Core.Path.{_≡_};
 ghost use mathlib.Core.List.{_++_};
+ghost use lib.IntN.{pos};
 ghost use lib.ListN.{length, drop};
 ghost use Rattle.answer.specs.Record.{recordOf};
 ghost use Rattle.table_numbers.specs.Table.{stepTable};
@@ -10,12 +11,15 @@ ghost use Rattle.exponential.specs.Answer.{expAnswer};
 ghost use Rattle.logarithm.specs.Answer.{logAnswer};
 ghost use Rattle.doubles.specs.Record.{doublesAnswer, AnswerKept, unitsAnswer, WrittenBack};
 ghost use Rattle.text.specs.Answer.{reply, countFor, outFor};
+ghost use Rattle.merge.specs.Merge.{merge};
 ghost use Rattle.merge.specs.Call.{refusalFor, bytesFor};
+ghost use Rattle.merge.specs.Stop.{stop};
 ghost use Rattle.controller.specs.Record.{handed, written, partOf, countOrRefusal};
 use answer::Answer;
 use doubles::Doubles;
 use doubles::DoublesAnswer;
 use doubles::UnitsAnswer;
+use merge::Stop;
 use point::Point;
 
 // The bytes of a record, eight numbers.
@@ -93,6 +97,15 @@ pub extern "C" fn bkm_merge<'a>(a: &'a [u8], b: &'a [u8], out: &mut [u8]) -> i64
         return m.written as i64;
     }
     -refusal
+}
+
+// Which line of which sheet stops the merge of two sheets, counted from 1; 0 for a sheet of which no line is refused.
+#[no_mangle]
+pub extern "C" fn bkm_merge_stopped_at<'a>(a: &'a [u8], b: &'a [u8]) -> Stop
+    ensures stop { λ r. ⌜ r ≡ stop (now (a .entry)) (now (b .entry)) ⌝ }
+    ensures same { λ r. ⌜ r .refusal ≡ pos (merge (now (a .entry)) (now (b .entry)) .refusal) ⌝ }
+{
+    merge::stopped_at(a, b)
 }
 
 // A part of the entry of step n for the digit (dx, dy), out of the array of the step table: 0 is the real part, any other number the imaginary

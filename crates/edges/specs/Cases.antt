@@ -9,13 +9,14 @@ use Rattle.algebra.specs.Gauss.{𝔾, gi, _-ᵍ_}
 use Rattle.point.specs.Point.{gauss, nought, one}
 use Rattle.answer.specs.declared.Answer.{Answer}
 use Rattle.answer.specs.Record.{recordOf, refusal-in, re-in, im-in, binary-exponent-in, quadrant-in, remainder-re-in, remainder-im-in}
-use Rattle.table_numbers.specs.Reciprocal.{reciprocal}
+use Rattle.table_numbers.specs.declared.Entry.{Entry}
+use Rattle.table_numbers.specs.Rows.{number, reciprocalAt}
 use Rattle.table_numbers.specs.Table.{stepTable, reciprocalTable}
 use Rattle.iteration.specs.declared.State.{State}
 use Rattle.iteration.specs.declared.Mode.the-variants.{Exp, Log}
 use Rattle.iteration.specs.Run.{state, next, digits}
 use Rattle.exponential.specs.Answer.{expAnswer}
-use Rattle.logarithm.specs.Reduction.{turned}
+use Rattle.logarithm.specs.Reduction.{turned, column, row, cellX, cellY}
 use Rattle.logarithm.specs.Answer.{begun, logAnswer}
 
 -- ---- a call, what it answers and the record of that
@@ -37,6 +38,10 @@ value-of c = let r = handed c in gi (re-in r) (im-in r)
 abbrev pub remainder-of : Call → 𝔾
 remainder-of c = let r = handed c in gi (remainder-re-in r) (remainder-im-in r)
 
+-- the reciprocal ("seat") that `tables::reciprocal` hands out for the cell with (X + iY)/32 in it, whose unit is 1/2^5
+abbrev pub cellReciprocal : ℤ → ℤ → Entry
+cellReciprocal X Y = reciprocalAt (column 5 (gi X Y)) (row 5 (gi X Y))
+
 -- ---- what a case says
 -- a number at a place of a record
 abbrev pub Field : Type 0
@@ -48,7 +53,7 @@ pub data Case : Type 0 where
   -- these digits open EXP of an exponent from step 1 on, LOG of a point from step 3 on
   exp-opens : (exponent : 𝔾) (digits : List 𝔾) → Case
   log-opens : (point : 𝔾) (digits : List 𝔾) → Case
-  -- the reciprocal ("seat") of the cell with centre (X + iY)/32, in 64ths
+  -- this number is handed out as the reciprocal of the cell with centre (X + iY)/32
   has-reciprocal : (X Y : ℤ) (number : 𝔾) → Case
 
 -- ---- the table: "What a case leaves unsaid: N is 40, the exponent nought, the start or the point one, the other part 0"
@@ -161,7 +166,7 @@ Holds (log-opens p ds) = let x = begun 48 reciprocalTable (turned p) in
     (digits 48 stepTable Log 2 (length ds) x ≡ ds)
     × ((reads value-of (λ n. LOG (pos n) p) 2 (length ds) ≡ map (λ y. gauss (y .sum)) (states 2 x ds))
     × (reads remainder-of (λ n. LOG (pos n) p) 2 (length ds) ≡ map (λ y. gauss (y .point) -ᵍ unity) (states 2 x ds)))
-Holds (has-reciprocal X Y c) = reciprocal X Y ≡ c
+Holds (has-reciprocal X Y c) = (gi (cellX 5 (gi X Y)) (cellY 5 (gi X Y)) ≡ gi X Y) × (number (cellReciprocal X Y) ≡ c)
 
 abbrev pub All : List Case → Type 0
 All [] = Unit {0}

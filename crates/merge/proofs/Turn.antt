@@ -21,11 +21,11 @@ use Rattle.merge.specs.declared.Front.the-variants.{End, Malformed, Fall
 use Rattle.merge.specs.declared.Choice.the-variants.{Done, First, Passed, Second, Refused}
 
 -- ---- by lines
-abbrev hd : List (List ℕ) → List ℕ
+abbrev pub hd : List (List ℕ) → List ℕ
 hd [] = []
 hd (x ∷ xs) = x
 
-abbrev tl : List (List ℕ) → List (List ℕ)
+abbrev pub tl : List (List ℕ) → List (List ℕ)
 tl [] = []
 tl (x ∷ xs) = xs
 
@@ -35,14 +35,14 @@ one-sheet j k [] = refl
 one-sheet j k (x ∷ xs) = refl
 
 module _ (same : Bool) (first passed second : ℤ → Merge) where
-  lone-second : (g : Front) → alone g second ≡ act (choice End g same) first passed second
+  pub lone-second : (g : Front) → alone g second ≡ act (choice End g same) first passed second
   unfolding choice
   lone-second End = refl
   lone-second Malformed = refl
   lone-second Fallen = refl
   lone-second (Risen n) = refl
 
-  lone-first : (f : Front) → alone f first ≡ act (choice f End same) first passed second
+  pub lone-first : (f : Front) → alone f first ≡ act (choice f End same) first passed second
   unfolding choice
   lone-first End = refl
   lone-first Malformed = refl
@@ -99,12 +99,12 @@ module _ (same : Bool) where
   reads-lines j k (a ∷ xs) (b ∷ ys) = reads-both (choice (frontLine j a) (frontLine k b) same) (length xs) (length ys)
 
 -- ---- by the bytes of the rests
-front-line : (s : List ℕ) → hd (lines s) ≡ firstLine s
+pub front-line : (s : List ℕ) → hd (lines s) ≡ firstLine s
 unfolding linesFrom lastLine firstLine before
 front-line [] = refl
 front-line (c ∷ cs) = ap hd (some-line (c ∷ cs) (λ e. omega arith))
 
-behind-lines : (s : List ℕ) → tl (lines s) ≡ lines (behind s)
+pub behind-lines : (s : List ℕ) → tl (lines s) ≡ lines (behind s)
 unfolding linesFrom lastLine behind before
 behind-lines [] = refl
 behind-lines (c ∷ cs) = ap tl (some-line (c ∷ cs) (λ e. omega arith))

@@ -5,7 +5,7 @@ use lib.IntN.{ℤ, pos, negℤ}
 use Rattle.algebra.specs.Gauss.{𝔾, two}
 use Rattle.word.specs.Compare.{between}
 
--- ---- the count of steps: "N from 1 to 40" for EXP, "from 3 to 40" for LOG
+-- ---- the count of steps: "N is 1 to 40" for EXP, "N from 3 to 40" for LOG
 unfoldable pub inSteps : ℕ → ℕ → ℤ → Bool
 inSteps F least n = between (pos least) (pos (F - 8)) n
 

@@ -1,4 +1,5 @@
 -- So many numbers from fields (01, A sheet line: "then exponent and start (4 numbers) for EXP, the point (2 numbers) for LOG").
+use mathlib.Core.Bool.{Bool, true, false}
 use mathlib.Core.List.{List, [], _∷_}
 use Prim.Native.Nat.{ℕ, zero, suc}
 use lib.IntN.{ℤ}
@@ -22,3 +23,19 @@ numbers zero [] = are []
 numbers zero (f ∷ fs) = none
 numbers (suc n) [] = none
 numbers (suc n) (f ∷ fs) = inFront (readNumber f) (numbers n fs)
+
+-- whether they are there
+abbrev pub areThere : Numbers → Bool
+areThere none = false
+areThere (are zs) = true
+
+-- a list as it was, or with a number first
+abbrev pub putFirst : Number → (old rest : List ℤ) → List ℤ
+putFirst num.Not old rest = old
+putFirst (num.Is z) old rest = z ∷ rest
+
+-- fields read into a list: each number at its place, up to the first field that is none or to the list's end; the rest as it was
+unfoldable pub stored : List ℤ → List (List ℕ) → List ℤ
+stored [] fs = []
+stored (x ∷ xs) [] = x ∷ xs
+stored (x ∷ xs) (f ∷ fs) = putFirst (readNumber f) (x ∷ xs) (stored xs fs)

@@ -1,14 +1,13 @@
 // Bytes read from lent buffers: where a byte stands, numbers and words that a part of a slice is, and numbers from fields. Every public
 // function is total: a part of a slice is cut to the slice.
 ghost use mathlib.Core.Path.{_≡_};
-ghost use mathlib.Core.Bool.{cond};
 ghost use Prim.Native.Nat.{_+_, _≤_, min};
 ghost use lib.ListN.{length};
 ghost use lib.Seq.{slice};
 ghost use Rattle.scan.specs.Decimal.{readNatural, readNumber};
 ghost use Rattle.scan.specs.Find.{findByte};
 ghost use Rattle.scan.specs.Fields.{fieldsAt, sameBytes};
-ghost use Rattle.scan.specs.Numbers.{numbers, are, none};
+ghost use Rattle.scan.specs.Numbers.{numbers, areThere, stored};
 ghost use Rattle.scan.specs.Code.{endsAt, Worth, UpToTab};
 
 // A size that stands in a field, or none.
@@ -228,9 +227,10 @@ pub fn same_bytes(s: &[u8], from: usize, to: usize, word: &[u8]) -> bool
     true
 }
 
-// Whether the fields from `at` on are as many numbers as `into` holds, and no more; then those stand in it.
+// Whether the fields from `at` on are as many numbers as `into` holds, and no more. Each goes to its place, up to the first that is none.
 pub fn read_numbers(s: &[u8], at: usize, into: &mut [i64]) -> bool
-    ensures { λ r. ⌜ numbers (length (now (into .entry))) (fieldsAt (now (s .entry)) at) ≡ cond r (are (now (into .exit))) none ⌝ }
+    ensures { λ r. ⌜ r ≡ areThere (numbers (length (now (into .entry))) (fieldsAt (now (s .entry)) at)) ⌝ }
+    ensures into { λ r. ⌜ now (into .exit) ≡ stored (now (into .entry)) (fieldsAt (now (s .entry)) at) ⌝ }
 {
     let mut next = at;
     let mut i: usize = 0;

@@ -1,5 +1,6 @@
--- Windows: where the parts of a step table's entry lie, by the digit's part. The numbers are those of the true logarithms, rounded outward,
--- so any table of nearest units keeps them. A bound is a multiple of h/2048, h = 2^(F−n) being 1/2^n in units.
+-- Windows: where the parts of a step table's entry lie, by the digit's part. Up to n = 4 the numbers are those of the true logarithms, rounded
+-- outward; from 5 on one row of wider ones holds for every n. So any table of nearest units keeps them. A bound is a multiple of h/2048,
+-- h = 2^(F−n) being 1/2^n in units.
 use Prim.Native.Nat.{ℕ, zero, suc}
 use lib.IntN.{ℤ, pos, negsuc, negℤ, _+ℤ_, _-ℤ_, _*ℤ_}
 use Rattle.algebra.specs.Order.{_⩽_}

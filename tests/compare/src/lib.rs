@@ -18,6 +18,7 @@ extern "C" {
         out: *mut u8,
         len: usize,
     ) -> i64;
+    fn bkm_merge_stopped_at(a: *const u8, a_len: usize, b: *const u8, b_len: usize) -> Stop;
     fn bkm_step_entry(n: usize, dx: i64, dy: i64, part: usize) -> i64;
     fn bkm_log_doubles(n: i64, x: i64, y: i64) -> DoublesAnswer;
     fn bkm_read_doubles(doubles: Doubles) -> UnitsAnswer;
@@ -42,6 +43,13 @@ struct UnitsAnswer {
     refusal: i64,
     x: i64,
     y: i64,
+}
+
+#[repr(C)]
+struct Stop {
+    refusal: i64,
+    first: usize,
+    second: usize,
 }
 
 // Inlined, so that a test which makes one call links without the other.
@@ -71,6 +79,15 @@ pub fn merge(first: &[u8], second: &[u8], out: &mut [u8]) -> i64 {
     let (a, b) = (first.as_ptr(), second.as_ptr());
     // SAFETY: as above, and the sheets are only read.
     unsafe { bkm_merge(a, first.len(), b, second.len(), out.as_mut_ptr(), out.len()) }
+}
+
+/// The refusal number or 0, and the line of each sheet that it is due to.
+#[inline]
+pub fn merge_stopped_at(first: &[u8], second: &[u8]) -> (i64, [usize; 2]) {
+    let (a, b) = (first.as_ptr(), second.as_ptr());
+    // SAFETY: the sheets are only read.
+    let stop = unsafe { bkm_merge_stopped_at(a, first.len(), b, second.len()) };
+    (stop.refusal, [stop.first, stop.second])
 }
 
 #[inline]

@@ -4,11 +4,20 @@
 use reference::sheet::answer_sheet;
 use reference::width::WIDTH_48;
 use std::env;
+use std::ffi::{c_int, c_ulong};
 use std::io::Write;
+use std::os::fd::AsRawFd;
 use std::path::PathBuf;
-use std::process::{Child, Command, Stdio};
+use std::process::{Child, ChildStdin, Command, Stdio};
 use std::thread;
-use std::time::Duration;
+use std::time::{Duration, Instant};
+
+/// Linux: how many bytes of a pipe nobody has read yet, at either end.
+const FIONREAD: c_ulong = 0x541b;
+
+extern "C" {
+    fn ioctl(descriptor: c_int, request: c_ulong, ...) -> c_int;
+}
 
 pub fn path() -> PathBuf {
     let built = concat!(env!("CARGO_MANIFEST_DIR"), "/../../target/bin/bkm");
@@ -19,18 +28,29 @@ pub fn start(command: &mut Command) -> Child {
     command.spawn().unwrap_or_else(|error| panic!("{command:?}: {error}"))
 }
 
-/// What the program writes for the pieces of its input, each written when the one before has
-/// had time to be read.
+/// Waits until all of a pipe is read, so that what is written next comes by a read of its own.
+fn wait_until_read(pipe: &ChildStdin) {
+    let late = Instant::now() + Duration::from_secs(60);
+    let mut unread: c_int = 1;
+    while unread > 0 {
+        // SAFETY: this request writes one int, at the address that is given.
+        let status = unsafe { ioctl(pipe.as_raw_fd(), FIONREAD, &mut unread) };
+        assert_eq!(status, 0, "{}", std::io::Error::last_os_error());
+        assert!(Instant::now() < late, "{unread} bytes are not read");
+        thread::sleep(Duration::from_micros(20));
+    }
+}
+
+/// What the program writes for the pieces of its input, each written when the one before is read: no
+/// two of them come as one.
 pub fn answers(pieces: &[&[u8]]) -> Vec<u8> {
     let mut child = start(Command::new(path()).stdin(Stdio::piped()).stdout(Stdio::piped()));
     let mut stdin = child.stdin.take().unwrap();
     // Written beside the reading: both pipes are short.
     let output = thread::scope(|scope| {
         scope.spawn(move || {
-            for (i, piece) in pieces.iter().enumerate() {
-                if i > 0 {
-                    thread::sleep(Duration::from_millis(2));
-                }
+            for piece in pieces {
+                wait_until_read(&stdin);
                 stdin.write_all(piece).unwrap();
             }
         });

@@ -4,9 +4,9 @@
 use compare::{expected, numbers, observed};
 use reference::answer::Record;
 use reference::edges::{
-    exp_of_zero, exp_records, exp_refusals, exp_remainders, exp_scales, far_exp_records,
-    figure_digits, log_bounds, log_one_digits, log_one_remainders, log_reductions, log_refusals,
-    EXP, LOG, ONE,
+    exp_eighths, exp_of_zero, exp_records, exp_refusals, exp_remainders, exp_scales,
+    far_exp_records, figure_digits, log_bounds, log_one_digits, log_one_remainders, log_reductions,
+    log_refusals, EXP, LOG, ONE,
 };
 use reference::exponential::{self, exp, Input as Exp, CUT};
 use reference::figure::EXPONENT;
@@ -82,6 +82,14 @@ fn remainders() {
 fn scales_of_exp() {
     for (input, k) in exp_scales() {
         assert_eq!(exp_record(input)[3], k, "{input:?}");
+    }
+}
+
+/// p is made with the constant Q, and the column tells whether it is odd.
+#[test]
+fn eighths_by_the_constant() {
+    for (input, p) in exp_eighths() {
+        assert_eq!(exp_record(input)[5], if p % 2 == 0 { 2128 } else { 4176 }, "{input:?}");
     }
 }
 

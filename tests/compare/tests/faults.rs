@@ -65,6 +65,24 @@ fn check_memory(child: &Child) {
     assert!(peak < 4096, "{peak} kB");
 }
 
+/// A sheet that is named is not read, nor is standard input waited for.
+#[test]
+fn an_argument() {
+    for arguments in [&["examples/kernels.sheet"][..], &["--help"], &["", "-"]] {
+        let mut command = Command::new(path());
+        command.args(arguments).stdin(Stdio::piped()).stdout(Stdio::piped()).stderr(Stdio::piped());
+        let mut child = start(&mut command);
+        let unclosed = child.stdin.take();
+        wait(&mut child);
+        let output = child.wait_with_output().unwrap();
+        drop(unclosed);
+        let wanted =
+            "bkm: reads a sheet on standard input and takes no argument, as in: bkm < SHEET\n";
+        assert_eq!(said(&output), wanted);
+        assert!(output.stdout.is_empty());
+    }
+}
+
 #[test]
 fn output_that_cannot_be_written() {
     for (before, error) in

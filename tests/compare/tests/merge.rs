@@ -2,14 +2,15 @@
 
 use compare::program::answers;
 use reference::damage::{every_damage, merges, tabs};
-use reference::merge::merge_into;
+use reference::merge::{merge_into, stopped_at};
 use reference::samples::{two_sheets, Random};
 use reference::sheet::{lines, parse};
 use reference::width::WIDTH_48;
 use std::collections::BTreeMap;
 
 /// Both on a buffer with so many bytes more than the sheets have: what is handed back and every
-/// byte of the buffer must be the same. Gives what was handed back.
+/// byte of the buffer must be the same, and so must the lines that a refusal is due to. Gives what was
+/// handed back.
 fn check(first: &[u8], second: &[u8], extra: usize) -> i64 {
     let room = first.len() + second.len() + extra;
     let mut seen: Vec<u8> = (0..room).map(|i| (i * 37 + extra) as u8).collect();
@@ -18,6 +19,9 @@ fn check(first: &[u8], second: &[u8], extra: usize) -> i64 {
     let shown = || [first, second].map(String::from_utf8_lossy);
     assert_eq!(handed, merge_into(first, second, &mut wanted), "{:?}", shown());
     assert!(seen == wanted, "{:?}", shown());
+    let stop = compare::merge_stopped_at(first, second);
+    assert_eq!(stop, stopped_at(first, second), "{:?}", shown());
+    assert!(extra < 2 || -stop.0 == handed.min(0), "{:?}", shown());
     handed
 }
 
@@ -33,7 +37,9 @@ fn sentences() {
                 let mut wanted = given.clone().unwrap_or_default();
                 let count = wanted.len();
                 wanted.resize(out.len(), 0xa5);
-                assert_eq!(handed, given.clone().map_or_else(|r| -r, |_| count as i64));
+                assert_eq!(handed, given.clone().map_or_else(|(r, _)| -r, |_| count as i64));
+                let stop = given.clone().map_or_else(|stop| stop, |_| (0, [0, 0]));
+                assert_eq!(compare::merge_stopped_at(&first, &second), stop);
                 assert_eq!(String::from_utf8_lossy(&out), String::from_utf8_lossy(&wanted));
                 check(&first, &second, 2);
             }

@@ -10,11 +10,13 @@ use reference::width::WIDTH_48 as W;
 /// "Every remainder part is below 1/2^N in size."
 #[test]
 fn below_one_over_two_to_the_n() {
-    let mut worst = [0; 2];
+    let (mut worst, mut answered) = ([0; 2], [0; 2]);
     let mut check = |place: usize, n: i64, figures: Option<Figures>| {
-        let size = figures.map_or(0, |figures| figures.remainder().larger_part() << n);
+        let Some(figures) = figures else { return };
+        let size = figures.remainder().larger_part() << n;
         assert!(size < W.one(), "N = {n}: {figures:?}");
         worst[place] = size.max(worst[place]);
+        answered[place] += 1;
     };
     let mut random = Random::new(60);
     for _ in 0..1_500_000 {
@@ -24,18 +26,20 @@ fn below_one_over_two_to_the_n() {
         check(1, input.n, log_figures(input));
     }
     println!(
-        "EXP and LOG leave at most {:.3?} of it",
+        "EXP and LOG leave at most {:.3?} of it in {answered:?} answers",
         worst.map(|size| size as f64 / W.one() as f64)
     );
+    assert!(answered.iter().all(|&count| count > 1_000_000), "{answered:?}");
 }
 
 /// An answer with its remainder is as near as `include/bkm.h` says, by rounding alone.
 #[test]
 fn answers_with_their_remainders() {
-    let mut worst = [0.0; 2];
+    let (mut worst, mut answered) = ([0.0; 2], [0; 2]);
     let mut check = |place: usize, closeness: Closeness| {
         assert!(closeness.holds(), "{closeness:?}");
         worst[place] = closeness.fraction().max(worst[place]);
+        answered[place] += 1;
     };
     let mut random = Random::new(61);
     for _ in 0..60_000 {
@@ -48,5 +52,6 @@ fn answers_with_their_remainders() {
             check(1, log_closeness(input, figures, WithRemainder, W));
         }
     }
-    println!("EXP and LOG: at most {worst:.3?} of what is allowed");
+    println!("EXP and LOG: at most {worst:.3?} of what is allowed in {answered:?} answers");
+    assert!(answered.iter().all(|&count| count > 40_000), "{answered:?}");
 }

@@ -100,10 +100,13 @@ pub fn not_rising() -> Vec<(Vec<u8>, Vec<u8>)> {
     NOT_RISING.iter().map(sheet).collect()
 }
 
+/// A refusal number, and the line of each sheet that it is due to, or 0.
+pub type Stopped = (i64, [usize; 2]);
+
 /// Two sheets, their lines parted by a comma, and what they are merged into, or the refusal
-/// number (02, E4). a, b and so on are the numbers 1, 2 and so on with the line GOOD, capitals the
+/// number (02, E4) with the lines of both sheets that it is due to. a, b and so on are the numbers 1, 2 and so on with the line GOOD, capitals the
 /// same numbers with another line, and ! is malformed.
-const MERGES: [(&str, &str, Result<&str, i64>); 33] = [
+const MERGES: [(&str, &str, Result<&str, Stopped>); 36] = [
     ("", "", Ok("")),
     ("a", "", Ok("a")),
     ("", "a", Ok("a")),
@@ -117,37 +120,40 @@ const MERGES: [(&str, &str, Result<&str, i64>); 33] = [
     ("a,b,d", "b,c,d", Ok("a,b,c,d")),
     ("a,B,c", "a,B,c", Ok("a,B,c")),
     // 5: malformed, in either sheet, at the top, later, and in the rest.
-    ("!", "", Err(5)),
-    ("", "!", Err(5)),
-    ("a,!", "b", Err(5)),
-    ("a", "b,!", Err(5)),
-    ("a", "b,c,!,d", Err(5)),
+    ("!", "", Err((5, [1, 0]))),
+    ("", "!", Err((5, [0, 1]))),
+    ("a,!", "b", Err((5, [2, 0]))),
+    ("a", "b,!", Err((5, [0, 2]))),
+    ("a", "b,c,!,d", Err((5, [0, 3]))),
     // 7: falling or repeated within a sheet, in the rest too; a line passed by counts.
-    ("b,a", "c", Err(7)),
-    ("c", "b,b", Err(7)),
-    ("a,c,b", "", Err(7)),
-    ("a", "b,c,c", Err(7)),
-    ("b,b", "b", Err(7)),
-    ("b,a", "b,c", Err(7)),
+    ("b,a", "c", Err((7, [2, 0]))),
+    ("c", "b,b", Err((7, [0, 2]))),
+    ("a,c,b", "", Err((7, [3, 0]))),
+    ("a", "b,c,c", Err((7, [0, 3]))),
+    ("b,b", "b", Err((7, [2, 0]))),
+    ("b,a", "b,c", Err((7, [2, 0]))),
     // 8: one number with two differing lines.
-    ("a", "A", Err(8)),
-    ("a,b,c", "B", Err(8)),
+    ("a", "A", Err((8, [1, 1]))),
+    ("a,b,c", "B", Err((8, [2, 1]))),
+    ("c,d", "a,b,D", Err((8, [2, 3]))),
     // The pair met first decides.
-    ("a,!", "b,B", Err(5)),
-    ("a,A", "b,!", Err(7)),
-    ("a,!", "A,A", Err(8)),
-    ("c,!", "a,d,b", Err(5)),
-    ("c,b", "a,d,!", Err(7)),
+    ("a,!", "b,B", Err((5, [2, 0]))),
+    ("a,A", "b,!", Err((7, [2, 0]))),
+    ("a,!", "A,A", Err((8, [1, 1]))),
+    ("c,!", "a,d,b", Err((5, [2, 0]))),
+    ("c,b", "a,d,!", Err((7, [2, 0]))),
+    ("a,c,!", "b,d", Err((5, [3, 0]))),
     // At one pair: 5 on either side, then 7, then 8.
-    ("!", "b,!", Err(5)),
-    ("b,a", "b,!", Err(7)),
-    ("a,b,B", "a,b", Err(7)),
-    ("b,b", "b,B", Err(7)),
-    ("a,a", "c,!", Err(7)),
+    ("!", "!", Err((5, [1, 1]))),
+    ("!", "b,!", Err((5, [1, 0]))),
+    ("b,a", "b,!", Err((7, [2, 0]))),
+    ("a,b,B", "a,b", Err((7, [3, 0]))),
+    ("b,b", "b,B", Err((7, [2, 0]))),
+    ("a,a", "c,!", Err((7, [2, 0]))),
 ];
 
 /// These merges: two sheets, and what the second implementation and the product must give.
-pub fn merges() -> Vec<(Vec<u8>, Vec<u8>, Result<Vec<u8>, i64>)> {
+pub fn merges() -> Vec<(Vec<u8>, Vec<u8>, Result<Vec<u8>, Stopped>)> {
     let line = |name: &str| match name.as_bytes()[0] {
         b'!' => "1|LOG|40|1".to_string(),
         name @ b'a'..=b'z' => format!("{}|EXP|40|0|0|281474976710656|0", name - b'a' + 1),

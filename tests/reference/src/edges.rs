@@ -196,6 +196,20 @@ pub fn exp_scales() -> Vec<(Exp, i64)> {
     cases
 }
 
+/// The 24 exponents at which 02, E5's p, floor(ey/Q + 1/2), is not ey over π/4 rounded, with that p: Q is
+/// a quarter of a unit more than π/4, which up to eight comes to 2.3 units at a threshold. The start
+/// is 1 + i, whose column is 2128 by 40 steps for an even p and 4176 for an odd one.
+pub fn exp_eighths() -> Vec<(Exp, i64)> {
+    let mut cases = Vec::new();
+    for p in 2..=9 {
+        let last = ((2 * p + 1) * Q - 1) / 2;
+        for ey in (if p < 6 { last } else { last - 1 })..=last {
+            cases.extend([(ey, p), (-ey, -p)].map(|(ey, p)| (Exp { ey, sy: ONE, ..EXP }, p)));
+        }
+    }
+    cases
+}
+
 /// Remainders of EXP after one step, by hand: the entry -H of the digit -1, and a unit beside it;
 /// next to the thresholds, where the step takes nothing from the exponent or just that entry; and
 /// what the reduction leaves past the rectangle.

@@ -30,28 +30,56 @@ fn read(input: &[u8]) -> Sheet<'_> {
     sheet
 }
 
-/// The flaw that a merge meets first. It meets one when the line before it is read, and of two
-/// equal lines the first sheet's is read first; at the top of a sheet the one flaw is 5.
-fn first_flaw(first: &Sheet, second: &Sheet) -> Option<(i64, Refusal)> {
-    match (first.flaw, second.flaw) {
-        (Some((m, _)), Some((n, _))) if n < m => second.flaw,
-        (one, other) => one.or(other),
+impl Sheet<'_> {
+    /// The line of a number, counted from 1.
+    fn line_of(&self, number: i64) -> usize {
+        self.lines.range(..=number).count()
     }
+}
+
+/// What stops a merge, and the line of each sheet that it is due to, counted from 1, or 0.
+type Stop = (Refusal, [usize; 2]);
+
+/// The flaw that a merge meets first, with the number before it. It meets one when the line before it
+/// is read, and of two equal lines the first sheet's is read first; at the top, where nothing is read
+/// before, it meets both sheets' at once, and the one flaw there is 5.
+fn first_flaw(first: &Sheet, second: &Sheet) -> Option<(i64, Stop)> {
+    let at = |sheet: &Sheet| sheet.lines.len() + 1;
+    match (first.flaw, second.flaw) {
+        (Some((0, refusal)), Some((0, _))) => Some((0, (refusal, [1, 1]))),
+        (Some((m, refusal)), other) if other.is_none_or(|(n, _)| m <= n) => {
+            Some((m, (refusal, [at(first), 0])))
+        }
+        (_, other) => other.map(|(n, refusal)| (n, (refusal, [0, at(second)]))),
+    }
+}
+
+/// What stops the merge. Two differing lines are met before either is read.
+fn stop(first: &Sheet, second: &Sheet) -> Option<Stop> {
+    let differs = |(n, line): (&i64, &&[u8])| {
+        second.lines.get(n).is_some_and(|other| other != line).then_some(*n)
+    };
+    let clash = first.lines.iter().find_map(differs);
+    match (clash, first_flaw(first, second)) {
+        (clash, Some((n, flaw))) if clash.is_none_or(|m| n < m) => Some(flaw),
+        (Some(m), _) => Some((Refusal::Clash, [first.line_of(m), second.line_of(m)])),
+        _ => None,
+    }
+}
+
+/// The refusal number or 0, and the line of each sheet that it is due to.
+pub fn stopped_at(first: &[u8], second: &[u8]) -> (i64, [usize; 2]) {
+    stop(&read(first), &read(second))
+        .map_or((0, [0, 0]), |(refusal, lines)| (refusal as i64, lines))
 }
 
 /// The merged sheet, or what stops the merge.
 pub fn merge(first: &[u8], second: &[u8]) -> Result<Vec<u8>, Refusal> {
     let (first, mut second) = (read(first), read(second));
-    let differs = |(n, line): (&i64, &&[u8])| {
-        second.lines.get(n).is_some_and(|other| other != line).then_some(*n)
-    };
-    let clash = first.lines.iter().find_map(differs);
-    // Two differing lines are met before either is read.
-    match (clash, first_flaw(&first, &second)) {
-        (clash, Some((n, refusal))) if clash.is_none_or(|m| n < m) => return Err(refusal),
-        (Some(_), _) => return Err(Refusal::Clash),
-        _ => second.lines.extend(first.lines),
+    if let Some((refusal, _)) = stop(&first, &second) {
+        return Err(refusal);
     }
+    second.lines.extend(first.lines);
     Ok(second.lines.into_values().flat_map(|line| [line, b"\n"]).flatten().copied().collect())
 }
 

@@ -3,11 +3,11 @@
 use reference::answer::record;
 use reference::damage::tabs;
 use reference::edges::{
-    exp_of_zero, exp_records, exp_refusals, exp_remainders, exp_scales, far_exp_records,
-    figure_digits, log_bounds, log_one_digits, log_one_remainders, log_reductions, log_refusals,
-    EXP, EX_GREATEST, H, LOG, ONE, Q, R,
+    exp_eighths, exp_of_zero, exp_records, exp_refusals, exp_remainders, exp_scales,
+    far_exp_records, figure_digits, log_bounds, log_one_digits, log_one_remainders, log_reductions,
+    log_refusals, EXP, EX_GREATEST, H, LOG, ONE, Q, R,
 };
-use reference::exponential::{exp, steps, Input as Exp, Reduction, CUT};
+use reference::exponential::{exp, nearest_multiple, steps, Input as Exp, Reduction, CUT};
 use reference::figure::EXPONENT;
 use reference::logarithm::{self, log, reduce};
 use reference::point::point;
@@ -72,6 +72,23 @@ fn scales_of_exp() {
     for (input, k) in exp_scales() {
         assert_eq!(record(exp(input, W))[3], k, "{input:?}");
     }
+}
+
+/// By π/4 itself, here in billionths of a unit, p would be another one.
+#[test]
+fn eighths_by_the_constant() {
+    let quarter_pi = 221_069_929_750_888_758_617_686;
+    for (input, p) in exp_eighths() {
+        let ey = i128::from(input.ey);
+        assert_eq!(nearest_multiple(ey, Q.into()), p.into(), "{input:?}");
+        assert_eq!(
+            nearest_multiple(ey * 1_000_000_000, quarter_pi),
+            (p + p.signum()).into(),
+            "{input:?}"
+        );
+        assert_eq!(record(exp(input, W))[5], if p % 2 == 0 { 2128 } else { 4176 }, "{input:?}");
+    }
+    assert_eq!(exp_eighths().len(), 24);
 }
 
 #[test]

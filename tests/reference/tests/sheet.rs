@@ -9,7 +9,6 @@ use reference::sheet::{
     answer_into, answer_line, answer_sheet, parse, write_line, Call, LINE_BUFFER,
 };
 use reference::width::WIDTH_48 as W;
-use std::fs;
 
 fn answer(line: &str) -> String {
     String::from_utf8(answer_line(&tabs(line), W).1).unwrap().replace('\t', "|")
@@ -101,20 +100,5 @@ fn lent_buffers() {
             assert_eq!(out[..written], answer[..written]);
             assert!(out[written..].iter().all(|&byte| byte == 0xa5));
         }
-    }
-}
-
-/// The stored answers that the program is held to are this implementation's.
-#[test]
-fn stored_answers() {
-    let stored = |name| {
-        let path = format!("{}/../../{name}", env!("CARGO_MANIFEST_DIR"));
-        fs::read(&path).unwrap_or_else(|error| panic!("{path}: {error}"))
-    };
-    for (sheet, answers) in [
-        ("crates/bkm/stdin", "crates/bkm/stdout"),
-        ("examples/kernels.sheet", "examples/kernels.answer"),
-    ] {
-        assert!(answer_sheet(&stored(sheet), W) == stored(answers), "{answers}");
     }
 }

@@ -21,6 +21,18 @@ opened c = omega (arith, c .open .ensures .0, simp length-append at (ap length (
 finished : (c : tie.After-finish Inv-loop μ-loop) → c .finish .result ≤ length (c .finish .last .1 .0)
 finished c = omega (arith, c .finish .ensures .0, simp length-append at (ap length (c .finish .ensures .1)))
 
+arg-count-requires : tie.Need-arg-count-requires Inv-loop μ-loop
+arg-count-requires c κs = search needs
+
+slice-aggregate-write-all : tie.Need-slice-aggregate-write-all Inv-loop μ-loop
+slice-aggregate-write-all c = search needs
+
+write-all-requires : tie.Need-write-all-requires Inv-loop μ-loop
+write-all-requires c κs = search needs
+
+returns : tie.Need-returns Inv-loop μ-loop
+returns c = search needs
+
 slice-aggregate-open : tie.Need-slice-aggregate-open Inv-loop μ-loop
 slice-aggregate-open c = search needs
 
@@ -36,8 +48,8 @@ slice-aggregate-write-out c = sym (length-take-le _ _ (opened (c .before .before
 write-out-requires : tie.Need-write-out-requires Inv-loop μ-loop
 write-out-requires c κs = search needs
 
-returns : tie.Need-returns Inv-loop μ-loop
-returns c = search needs
+returns-2 : tie.Need-returns-2 Inv-loop μ-loop
+returns-2 c = search needs
 
 empty-requires : tie.Need-empty-requires Inv-loop μ-loop
 empty-requires c κs = search needs
@@ -57,8 +69,8 @@ slice-aggregate-fail c = search needs
 fail-requires : tie.Need-fail-requires Inv-loop μ-loop
 fail-requires c κs = search needs
 
-returns-2 : tie.Need-returns-2 Inv-loop μ-loop
-returns-2 c = search needs
+returns-3 : tie.Need-returns-3 Inv-loop μ-loop
+returns-3 c = search needs
 
 slice-aggregate-count : tie.Need-slice-aggregate-count Inv-loop μ-loop
 slice-aggregate-count c = search needs
@@ -78,8 +90,8 @@ slice-aggregate-answer-block-2 c = search needs
 answer-block-requires : tie.Need-answer-block-requires Inv-loop μ-loop
 answer-block-requires c κs = search needs
 
-returns-3 : tie.Need-returns-3 Inv-loop μ-loop
-returns-3 c = search needs
+returns-4 : tie.Need-returns-4 Inv-loop μ-loop
+returns-4 c = search needs
 
 sub-turns : tie.Need-sub-turns Inv-loop μ-loop
 sub-turns c = search needs
@@ -105,8 +117,8 @@ slice-aggregate-write-out-2 c = sym (length-take-le _ _ (finished (c .before .be
 write-out-requires-2 : tie.Need-write-out-requires-2 Inv-loop μ-loop
 write-out-requires-2 c κs = search needs
 
-returns-4 : tie.Need-returns-4 Inv-loop μ-loop
-returns-4 c = search needs
+returns-5 : tie.Need-returns-5 Inv-loop μ-loop
+returns-5 c = search needs
 
 pub main-spec : {M : Type 1} → statement M
 main-spec =
@@ -114,26 +126,30 @@ main-spec =
     (tie.spec
     Inv-loop
     μ-loop
+    arg-count-requires
+    slice-aggregate-write-all
+    write-all-requires
+    returns
     slice-aggregate-open
     open-requires
     array-share-prefix-out
     slice-aggregate-write-out
     write-out-requires
-    returns
+    returns-2
     empty-requires
     loop-holds
     slice-aggregate-read
     read-requires
     slice-aggregate-fail
     fail-requires
-    returns-2
+    returns-3
     slice-aggregate-count
     count-requires
     array-share-prefix-block
     slice-aggregate-answer-block
     slice-aggregate-answer-block-2
     answer-block-requires
-    returns-3
+    returns-4
     sub-turns
     loop-less
     loop-again
@@ -142,4 +158,4 @@ main-spec =
     array-share-prefix-out-2
     slice-aggregate-write-out-2
     write-out-requires-2
-    returns-4)
+    returns-5)

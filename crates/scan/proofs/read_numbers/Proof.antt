@@ -4,15 +4,14 @@ use Prim.Native.Nat.{ℕ, _≤_, _-_}
 use native.Mathlib.Omega.{arith}
 use borrow.Author.Needs.{needs}
 use lib.IntN.{ℤ}
-use lib.ListN.{length, take, length-set}
+use lib.ListN.{length, length-set}
 use lib.Seq.{slice}
 use Rattle.word.proofs.Fits.{back, sfits-mag}
 use Rattle.scan.specs.Decimal.{readNumber}
 use Rattle.scan.specs.Fields.{fieldsAt}
-use Rattle.scan.specs.Numbers.{numbers}
 use Rattle.scan.proofs.Find.{Ended, ended}
 use Rattle.scan.proofs.Tab.{field-end}
-use Rattle.scan.proofs.Numbers.{behind, none-read, field-missing, not-number, number-stored, all-read, field-left}
+use Rattle.scan.proofs.Numbers.{outcome, comes, field-missing, not-number, number-stored, all-read, field-left}
 use Rattle.scan.specs.declared.Number.the-variants as num
 use Rattle.scan.proofs.read_numbers.Statement.{statement}
 use Rattle.scan.proofs.read_numbers.Tie as tie
@@ -20,13 +19,13 @@ use Rattle.scan.proofs.read_numbers.Tie as tie
 abbrev Inv-loop : tie.InvT-loop
 Inv-loop s at into₀ next₀ i₀ into next i =
     (i ≤ length into₀) × (length into ≡ length into₀) ×
-    (behind (take i into) (numbers (length into₀ - i) (fieldsAt s next)) ≡ numbers (length into₀) (fieldsAt s at))
+    (outcome into i (fieldsAt s next) ≡ outcome into₀ 0 (fieldsAt s at))
 
 abbrev μ-loop : tie.MeasureT-loop
 μ-loop s at into₀ next₀ i₀ into next i = length into₀ - i
 
 loop-holds : tie.Need-loop-holds Inv-loop μ-loop
-loop-holds c = (omega arith, refl, none-read _ _)
+loop-holds c = (omega arith, refl, refl)
 
 same-length : tie.Need-same-length Inv-loop μ-loop
 same-length c = search needs
@@ -35,7 +34,7 @@ returns : tie.Need-returns Inv-loop μ-loop
 returns c =
     let l = c .before .before in
     let s = l .before .before in
-    sym (l .loop .inv .2) ∙ field-missing _ (l .loop .i) (omega arith) (s .args .s .now) (l .loop .next) _ (c .if1 .taken)
+    comes _ _ (l .loop .inv .2) (field-missing (s .args .s .now) (l .loop .into) (l .loop .i) (l .loop .next) (omega arith) (c .if1 .taken))
 
 read-field-requires : tie.Need-read-field-requires Inv-loop μ-loop
 read-field-requires c κs = search needs
@@ -54,9 +53,9 @@ returns-2 c =
     let r = c .before .before in
     let l = r .before .before .before in
     let s = l .before .before in
-    sym (l .loop .inv .2) ∙ not-number _ (l .loop .i) (omega arith) (s .args .s .now) (l .loop .next) _ (r .before .if1 .left) _
+    comes _ _ (l .loop .inv .2) (not-number (s .args .s .now) (l .loop .into) (l .loop .i) (l .loop .next) (omega arith) (r .before .if1 .left) _
     (ended (r .before .if1 .left) refl)
-    (sym (r .read-field .ensures .is) ∙ c .enum-told .given .1)
+    (sym (r .read-field .ensures .is) ∙ c .enum-told .given .1))
 
 -- the turn's number, and where its field ends
 module _ (c : tie.After-n Inv-loop μ-loop) where
@@ -99,8 +98,8 @@ loop-again c =
     let k = c .before in
     let l = read k .before .before .before in
     let s = l .before .before in
-    let stored = number-stored (s .args .s .now) (l .loop .into) _ (l .loop .i) (l .loop .next) _ (z k) (omega arith) (l .loop .inv .1)
-    (read k .before .if1 .left) (field k) (number k) in
+    let stored = number-stored (s .args .s .now) (l .loop .into) (l .loop .i) (l .loop .next) (omega arith) (read k .before .if1 .left) _
+    (field k) (z k) (number k) in
     let same = back (sfits-mag (z k) (c .known-told .given .0 .1)) in
     (omega arith, simp length-set (l .loop .inv .1), rw same (sym stored ∙ l .loop .inv .2))
 
@@ -111,8 +110,7 @@ returns-3 : tie.Need-returns-3 Inv-loop μ-loop
 returns-3 c =
     let l = c .before .before in
     let s = l .before .before in
-    sym (l .loop .inv .2) ∙ all-read (s .args .s .now) (l .loop .into) _ (l .loop .i) (l .loop .next) (l .loop .inv .1) (omega arith)
-    (c .if2 .taken)
+    comes _ _ (l .loop .inv .2) (all-read (s .args .s .now) (l .loop .into) (l .loop .i) (l .loop .next) (omega arith) (c .if2 .taken))
 
 same-length-4 : tie.Need-same-length-4 Inv-loop μ-loop
 same-length-4 c = search needs
@@ -121,8 +119,7 @@ returns-4 : tie.Need-returns-4 Inv-loop μ-loop
 returns-4 c =
     let l = c .before .before in
     let s = l .before .before in
-    sym (l .loop .inv .2) ∙ field-left (s .args .s .now) (l .loop .into) _ (l .loop .i) (l .loop .next) (l .loop .inv .1) (omega arith)
-    (c .if2 .left)
+    comes _ _ (l .loop .inv .2) (field-left (s .args .s .now) (l .loop .into) (l .loop .i) (l .loop .next) (omega arith) (c .if2 .left))
 
 pub read-numbers-spec : {M : Type 1} → statement M
 read-numbers-spec =

@@ -4,6 +4,7 @@ use lib.IntN.{ℤ, pos}
 use lib.ListN.{getD}
 use borrow.Author.Needs.{needs}
 use Rattle.word.proofs.Fits.{back, sfits-mag}
+use Rattle.scan.proofs.Numbers.{numbers-read}
 use Rattle.text.proofs.exp_line.Statement.{statement}
 use Rattle.text.proofs.exp_line.Tie as tie
 
@@ -34,7 +35,7 @@ returns c =
     let s = r .before .before .before in
     let at : ℕ → ℤ = λ i. getD (r .read-numbers .last .1 .1 .0) i (pos 0) in
     rw (
-      rw (c .before .before .before .before .before .if1 .taken) at (r .read-numbers .ensures),
+      rw (c .before .before .before .before .before .if1 .taken) at (numbers-read _ _ (r .read-numbers .ensures)),
       back (s .fits .serial),
       back (sfits-mag (at 0) (c .before .before .before .before .n .given)),
       back (sfits-mag (at 1) (c .before .before .before .ex .given)),
@@ -44,7 +45,7 @@ returns c =
     )
 
 returns-2 : tie.Need-returns-2
-returns-2 c = rw (rw (c .if1 .left) at (c .before .before .read-numbers .ensures))
+returns-2 c = rw (rw (c .if1 .left) at (numbers-read _ _ (c .before .before .read-numbers .ensures)))
 
 pub exp-line-spec : {M : Type 1} → statement M
 exp-line-spec =
