@@ -13,13 +13,13 @@ ghost use Rattle.doubles.specs.Record.{doublesAnswer, AnswerKept, unitsAnswer, 
 ghost use Rattle.text.specs.Answer.{reply, countFor, outFor};
 ghost use Rattle.merge.specs.Merge.{merge};
 ghost use Rattle.merge.specs.Call.{refusalFor, bytesFor};
-ghost use Rattle.merge.specs.Stop.{stop};
+ghost use Rattle.merge_stop.specs.Stop.{stop};
 ghost use Rattle.controller.specs.Record.{handed, written, partOf, countOrRefusal};
 use answer::Answer;
 use doubles::Doubles;
 use doubles::DoublesAnswer;
 use doubles::UnitsAnswer;
-use merge::Stop;
+use merge_stop::Stop;
 use point::Point;
 
 // The bytes of a record, eight numbers.
@@ -105,7 +105,7 @@ pub extern "C" fn bkm_merge_stopped_at<'a>(a: &'a [u8], b: &'a [u8]) -> Stop
     ensures stop { λ r. ⌜ r ≡ stop (now (a .entry)) (now (b .entry)) ⌝ }
     ensures same { λ r. ⌜ r .refusal ≡ pos (merge (now (a .entry)) (now (b .entry)) .refusal) ⌝ }
 {
-    merge::stopped_at(a, b)
+    merge_stop::stopped_at(a, b)
 }
 
 // A part of the entry of step n for the digit (dx, dy), out of the array of the step table: 0 is the real part, any other number the imaginary

@@ -141,9 +141,9 @@ module _ (F : ℕ) (wide : 16 ≤ F) (narrow : F ≤ 48) (t : StepTable) (table 
         r = reduced c e s
 
   pub close-for : {n : ℤ} {e s : 𝔾} → Accepted F n e s → CloseFor F c (natAbs n) e s (figures F t c (natAbs n) e s)
-  close-for {n} {e} {s} a T = by-rectangle (λ b r. cond b 24 80 ≤ T → CloseBy (natAbs n) T e s (count .at-least) (count .at-most) r) F c e s
-      (λ h long. close-inside (natAbs n) T e s (count .at-least) (count .at-most) (rectangle-says F e (omega arith) h) long)
-      (λ _ long. close-outside (natAbs n) T e s (count .at-least) (count .at-most) (reach-says F e (a .reach)) long)
+  close-for {n} {e} {s} a T long = by-rectangle (λ _ r. CloseBy (natAbs n) T e s (count .at-least) (count .at-most) r) F c e s
+      (λ h. close-inside (natAbs n) T e s (count .at-least) (count .at-most) (rectangle-says F e (omega arith) h) (omega (arith, rw h at long)))
+      (λ h. close-outside (natAbs n) T e s (count .at-least) (count .at-most) (reach-says F e (a .reach)) (omega (arith, rw h at long)))
     where
       count : Counts F 1 n
       count = steps-say F 1 n (a .steps)

@@ -1,7 +1,7 @@
 -- The error of EXP (01, What demand 3 compares): each part of the answer, less the start times the exact exponential of the exponent, is at
 -- most 8·m/2^N + rounding-share·N units, m being the start's larger part in size. At every width, for every table that keeps its promise.
 -- From the drift of the iteration, and what is left of the exponent at the end.
-use mathlib.Core.Path.{_≡_, refl, sym, _∙_, ap, subst}
+use mathlib.Core.Path.{_≡_, sym, _∙_, ap, subst}
 use mathlib.Core.List.{[], _∷_}
 use Prim.Native.Nat.{ℕ, suc, _+_, _-_, _^_, _≤_}
 use native.Mathlib.Omega.{arith}
@@ -26,13 +26,9 @@ use Rattle.iteration.specs.declared.State.{State}
 use Rattle.iteration.specs.declared.Mode.the-variants.{Exp}
 use Rattle.iteration.specs.Run.{state, run}
 use Rattle.iteration.proofs.Factor.{product-most}
-use Rattle.iteration.proofs.Drift.{drift-a-step, Short, Near, near-start, drift}
+use Rattle.iteration.proofs.Drift.{Short, Near, near-start, drift}
 use Rattle.exponential.specs.Answer.{rounding-share}
 use Rattle.exponential.proofs.Convergence.{Rectangle, below-parts, Boxed, boxed-start, boxed-next, boxed-below, boxed}
-
--- the share of the error bound that the steps' rounding has is what the point drifts in them
-share-is : drift-a-step ≡ rounding-share
-share-is = refl
 
 -- ---- the end, as algebra: q = 2^N, one is 64·q·v units, S is the exponential of what is left, which is at most 91·v long
 module _ (q v n P δ m : ℤ) (p s Q S S₀ : 𝔾) (q≥2 : pos 2 ⩽ q) (v≥1 : pos 1 ⩽ v) (n≤40 : n ⩽ pos 40) (P≥0 : pos 0 ⩽ P) (δ≥1 : pos 1 ⩽ δ)
@@ -182,9 +178,10 @@ module _ (F M : ℕ) (wide : 16 ≤ F) (room : M + 8 ≤ F) (t : StepTable) (pro
         a : Near F n T s (Sᵍ (2 ^ F) T e) (pos 4 *ℤ Dᶻ (2 ^ F) T) n (x n)
         a = drifted n n T (omega arith) g k long
 
+        -- what the point drifts in n steps is within the share of the error bound that the steps' rounding has
         rounded : Within (ιᵍ (a .exact .δ) *ᵍ gauss (x n .point) -ᵍ a .exact .Q *ᵍ s) (rounding-share *ℤ pos n *ℤ a .exact .δ)
-        rounded = subst (λ k. Within (ιᵍ (a .exact .δ) *ᵍ gauss (x n .point) -ᵍ a .exact .Q *ᵍ s) (k *ℤ pos n *ℤ a .exact .δ)) share-is
-            (a .exact .rounded)
+        rounded = within-weaken (a .exact .rounded) (lin (pos n ∷ a .exact .δ ∷ [])
+            (nonneg-mul (nonneg-pos n) (nonneg (a .exact .δ≥1)) & none) (search reify depth 20) tt)
 
     -- THE ERROR
     pub exp-error : (T : ℕ) → 24 ≤ T → (n : ℕ) → 1 ≤ n → n ≤ M → n ≤ 40 →

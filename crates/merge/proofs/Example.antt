@@ -2,7 +2,6 @@
 use mathlib.Core.Path.{_≡_, refl}
 use mathlib.Core.List.{List, [], _∷_, _++_}
 use Prim.Native.Nat.{ℕ, _+_}
-use lib.IntN.{pos}
 use Rattle.word.specs.Compare.{between}
 use Rattle.scan.specs.Decimal.{value, readNatural, readNumber}
 use Rattle.scan.specs.Fields.{split, sameBytes}
@@ -11,8 +10,6 @@ use Rattle.text.specs.Line.{kindLine, lineOf, readLine}
 use Rattle.stream.specs.Machine.{lastLine, linesFrom}
 use Rattle.merge.specs.Merge.{Merge, frontLine, choice, follow, mergeFrom, merge}
 use Rattle.merge.specs.Call.{text}
-use Rattle.merge.specs.Stop.{named, stopFrom, stop}
-use Rattle.merge.specs.declared.Stop.{Stop}
 
 -- n|LOG|3|x|0, each of n and x a digit; other lines with the same serial have another x
 abbrev log : ℕ → ℕ → List ℕ
@@ -50,18 +47,6 @@ Hold (c ∷ cs) = (merge (text (c .first)) (text (c .second)) ≡ c .gives) × H
 pub small-merges : Hold cases
 unfolding merge mergeFrom follow choice frontLine linesFrom lastLine split readLine lineOf kindLine numbers readNumber readNatural value sameBytes between text
 small-merges = (refl, (refl, (refl, (refl, (refl, (refl, (refl, tt)))))))
-
--- and the lines that stop them, of the first sheet and of the second
-abbrev pub stops : List Case → List Stop
-stops [] = []
-stops (c ∷ cs) = stop (text (c .first)) (text (c .second)) ∷ stops cs
-
-abbrev at : ℕ → ℕ → ℕ → Stop
-at r h i = record { refusal = pos r; first = h; second = i }
-
-pub small-stops : stops cases ≡ at 0 0 0 ∷ at 8 2 2 ∷ at 7 2 0 ∷ at 7 2 0 ∷ at 5 0 2 ∷ at 5 0 3 ∷ at 7 3 0 ∷ []
-unfolding stop stopFrom named choice frontLine linesFrom lastLine split readLine lineOf kindLine numbers readNumber readNatural value sameBytes between text
-small-stops = refl
 
 -- a last line without its newline is a line
 pub last-bare : merge (log 1 0 ++ 10 ∷ log 2 0) [] ≡ record { refusal = 0; copied = log 1 0 ∷ log 2 0 ∷ [] }

@@ -9,7 +9,6 @@
 --   Found     the first line, and what is behind it, as the search for a newline finds them
 --   Written   what the writing pass leaves
 --   Call      the call's equations
---   Named     which lines stop a merge: a step at a time, and THE LAWS
 --   Example   small sheets, computed
 pub mod Rules
 pub mod Laws
@@ -21,5 +20,4 @@ pub mod Found
 pub mod Sure
 pub mod Written
 pub mod Call
-pub mod Named
 pub mod Example

@@ -11,7 +11,6 @@ ghost use Rattle.stream.specs.Machine.{lines};
 ghost use Rattle.merge.specs.Merge.{front, bySerial, choice, merge};
 ghost use Rattle.merge.specs.Code.{InFrontIfPassing};
 ghost use Rattle.merge.specs.Call.{firstLine, behind, unread, text, refusalFor, bytesFor};
-ghost use Rattle.merge.specs.Stop.{named, stop};
 use scan::Number;
 
 // The line in front of what is left of a sheet, behind a line that was read.
@@ -43,14 +42,6 @@ pub enum Choice {
 pub struct Merged {
     pub refusal: i64,
     pub written: usize,
-}
-
-// Where a merge stops: the refusal number or 0, and of each sheet the line that is refused, counted from 1, or 0 where it is none of that sheet.
-#[repr(C)]
-pub struct Stop {
-    pub refusal: i64,
-    pub first: usize,
-    pub second: usize,
 }
 
 // ---- one step
@@ -310,70 +301,5 @@ pub fn merge<'a>(a: &'a [u8], b: &'a [u8], out: &mut [u8]) -> Merged
     Merged {
         refusal: 0,
         written,
-    }
-}
-
-// ---- which lines are refused: a walk of its own, so that a merge counts no lines
-
-// The i-th line of a sheet, which is f, where the refusal r is due to it, else 0.
-fn name_line(r: u8, f: Front, i: usize) -> usize
-    ensures { λ l. ⌜ l ≡ named r f i ⌝ }
-{
-    match f {
-        Front::End => 0,
-        Front::Malformed => if r == 5 { i } else { 0 },
-        Front::Fallen => if r == 7 { i } else { 0 },
-        Front::Risen(_) => if r == 8 { i } else { 0 },
-    }
-}
-
-// Which line of which sheet stops the merge. No sheet has more lines than bytes, so no count overflows.
-pub fn stopped_at<'a>(a: &'a [u8], b: &'a [u8]) -> Stop
-    ensures stop { λ r. ⌜ r ≡ stop (now (a .entry)) (now (b .entry)) ⌝ }
-    ensures same { λ r. ⌜ r .refusal ≡ pos (merge (now (a .entry)) (now (b .entry)) .refusal) ⌝ }
-{
-    let mut p = a;
-    let mut q = b;
-    let mut f = read_front(p, 0);
-    let mut g = read_front(q, 0);
-    // f is the h-th line of the first sheet, g the i-th of the second
-    let mut h: usize = 1;
-    let mut i: usize = 1;
-    loop {
-        let c = choose(p, q, f, g);
-        match c {
-            Choice::Done => return Stop {
-                refusal: 0,
-                first: 0,
-                second: 0,
-            },
-            Choice::Refused(r) => {
-                let first = name_line(r, f, h);
-                let second = name_line(r, g, i);
-                return Stop {
-                    refusal: r as i64,
-                    first,
-                    second,
-                };
-            }
-            Choice::First(n) => {
-                let r = step(p, q, c);
-                p = r;
-                f = read_front(p, n);
-                h += 1;
-            }
-            Choice::Passed(n) => {
-                let r = step(p, q, c);
-                p = r;
-                f = read_front(p, n);
-                h += 1;
-            }
-            Choice::Second(n) => {
-                let r = step(p, q, c);
-                q = r;
-                g = read_front(q, n);
-                i += 1;
-            }
-        }
     }
 }

@@ -24,7 +24,7 @@ use Rattle.iteration.specs.declared.State.{State}
 use Rattle.iteration.specs.declared.Mode.the-variants.{Exp}
 use Rattle.iteration.specs.Run.{state, Fits}
 use Rattle.exponential.specs.Reduction.{inReach, reduction}
-use Rattle.exponential.specs.Answer.{figuresFrom, figures}
+use Rattle.exponential.specs.Answer.{errorBound, figuresFrom, figures}
 use Rattle.exponential.proofs.Convergence.{Rectangle}
 use Rattle.exponential.proofs.Fits.{run-fits}
 use Rattle.exponential.proofs.Given.{reach-says, given-rectangle, given-start, given-exponent}
@@ -138,9 +138,6 @@ run-requires c κs = let r = c .before .before in simp (back, start r .fits .n) 
 abbrev ended : tie.After-struct-told5 → tie.After-run
 ended c = c .before .before .before .before .before .before .before
 
-error-bound-requires : tie.Need-error-bound-requires
-error-bound-requires c κs = let r = ended c .before .before .before in simp (back, start r .fits .n) (few r, small r)
-
 returns-4 : tie.Need-returns-4
 returns-4 c =
     let t5 = c .before in
@@ -161,7 +158,8 @@ returns-4 c =
     let y = back (sfits-mag (end .run .result .point .y) (t2 .struct-told2 .given .1 .0 .1)) ∙ ap (λ (p : Point). p .y) value in
     let left-x = back (sfits-mag (end .run .result .sum .x) (t3 .struct-told3 .given .0 .1)) ∙ ap (λ (p : Point). p .x) left in
     let left-y = back (sfits-mag (end .run .result .sum .y) (t4 .struct-told4 .given .1 .0 .1)) ∙ ap (λ (p : Point). p .y) left in
-    let bound = back (sfits-mag (c .error-bound .result) (c .error-bound .ok)) ∙ (simp (back, start r .fits .n) at (c .error-bound .ensures)) in
+    let bound : _ ≡ errorBound (N r) (gauss (r .reduce .result .start)) =
+    back (sfits-mag (c .error-bound .result) (c .error-bound .ok)) ∙ (simp (back, start r .fits .n) at (c .error-bound .ensures)) in
     settled (a .n) (a .exponent .x) (a .exponent .y) (a .start .x) (a .start .y)
     (answered 48 stepTable constants48 (a .n) (e r) (s r) (passed r)
     ∙ (ap Answered (sym given-figures) ∙ sym (λ i. Answered (record {
@@ -171,6 +169,9 @@ returns-4 c =
       «error_bound» = bound i;
       remainder = record { x = left-x i; y = left-y i };
     }))))
+
+error-bound-requires : tie.Need-error-bound-requires
+error-bound-requires c κs = let r = ended c .before .before .before in simp (back, start r .fits .n) (few r, small r)
 
 pub exp-spec : {M : Type 1} → statement M
 exp-spec =

@@ -15,7 +15,7 @@ add-if1 c = simp (back, c .fits .t, c .fits .one) (back-fits (c .pre) .above)
 sub-if2 : tie.Need-sub-if2
 sub-if2 c = let s = c .before in simp (back, s .fits .t, s .fits .one) (back-fits (s .pre) .below)
 
--- ---- the digit −1, then 1 and 0
+-- ---- the digit −1, then 0 and 1
 returns : tie.Need-returns
 returns c =
     let s = c .before in
@@ -23,14 +23,6 @@ returns c =
     let a = s .args in
     let h : leZ (a .one +ℤ a .t) (a .x) ≡ true = simp (back, f .t, f .one, f .x, back-fits (s .pre) .above) at (c .if1 .taken) in
     sym (back-high (a .t) (a .x -ℤ a .one) (s .pre .least) (sym (above-one (a .t) (a .one) (a .x)) ∙ h))
-
-returns-2 : tie.Need-returns-2
-returns-2 c =
-    let s = c .before .before in
-    let f = s .fits in
-    let a = s .args in
-    let h : leZ (a .x) (a .one -ℤ a .t) ≡ true = simp (back, f .t, f .one, f .x, back-fits (s .pre) .below) at (c .if2 .taken) in
-    sym (back-low (a .t) (a .x -ℤ a .one) (sym (below-one (a .t) (a .one) (a .x)) ∙ h))
 
 returns-3 : tie.Need-returns-3
 returns-3 c =
@@ -40,6 +32,14 @@ returns-3 c =
     let h : leZ (a .one +ℤ a .t) (a .x) ≡ false = simp (back, f .t, f .one, f .x, back-fits (s .pre) .above) at (c .before .if1 .left) in
     let g : leZ (a .x) (a .one -ℤ a .t) ≡ false = simp (back, f .t, f .one, f .x, back-fits (s .pre) .below) at (c .if2 .left) in
     sym (back-mid (a .t) (a .x -ℤ a .one) (sym (below-one (a .t) (a .one) (a .x)) ∙ g) (sym (above-one (a .t) (a .one) (a .x)) ∙ h))
+
+returns-2 : tie.Need-returns-2
+returns-2 c =
+    let s = c .before .before in
+    let f = s .fits in
+    let a = s .args in
+    let h : leZ (a .x) (a .one -ℤ a .t) ≡ true = simp (back, f .t, f .one, f .x, back-fits (s .pre) .below) at (c .if2 .taken) in
+    sym (back-low (a .t) (a .x -ℤ a .one) (sym (below-one (a .t) (a .one) (a .x)) ∙ h))
 
 pub cut-back-spec : {M : Type 1} → statement M
 cut-back-spec = tie.close (tie.spec add-if1 sub-if2 returns returns-2 returns-3)

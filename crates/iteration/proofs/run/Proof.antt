@@ -68,21 +68,6 @@ select-requires c κs = let l = c .before in omega (arith, l .loop .inv .1 .0 .m
 row-requires : tie.Need-row-requires Inv-loop μ-loop
 row-requires c κs = tt
 
-step-requires : tie.Need-step-requires Inv-loop μ-loop
-step-requires c κs =
-    let s = c .before .before in
-    let l = s .before .before in
-    let k = l .loop .k in
-    subst (StepPre (l .loop .s) (s .select .result) (c .row .result)) (counted (l .loop .inv .0))
-    (step-ok 48 stepTable (l .before .args .mode) (k - 1) (l .loop .s) (s .select .result) (c .row .result) (chosen s) (found c)
-    (omega arith) (l .loop .inv .1 .0) (omega arith))
-
-add-k-2 : tie.Need-add-k-2 Inv-loop μ-loop
-add-k-2 c = let l = c .before .before .before .before .before in omega (arith, l .loop .inv .1 .0 .most)
-
-loop-less : tie.Need-loop-less Inv-loop μ-loop
-loop-less c = omega arith
-
 loop-again : tie.Need-loop-again Inv-loop μ-loop
 loop-again c =
     let r = c .before in
@@ -91,7 +76,8 @@ loop-again c =
     let a = l .before .args in
     let k = l .loop .k in
     let f = l .loop .inv .1 .0 in
-    let made = c .step .ensures ∙ (ap (stepOf (l .loop .s) (s .select .result) (r .row .result)) (sym (counted (l .loop .inv .0)))
+    let taken : c .step .result ≡ stepOf (l .loop .s) (s .select .result) (r .row .result) k = c .step .ensures in
+    let made = taken ∙ (ap (stepOf (l .loop .s) (s .select .result) (r .row .result)) (sym (counted (l .loop .inv .0)))
     ∙ step-is 48 stepTable (a .mode) (k - 1) (l .loop .s) (s .select .result) (r .row .result) (chosen s) (found r)) in
     let same : suc (k - 1) ≡ k + 1 - 1 = omega (arith, l .loop .inv .0) in (
       omega arith,
@@ -106,6 +92,21 @@ returns c =
     let a = l .before .args in
     let none : 0 ≡ a .n - (l .loop .k - 1) = omega (arith, l .loop .inv .0) in
     ap (λ m. run 48 stepTable (a .mode) (l .loop .k - 1) m (l .loop .s)) none ∙ l .loop .inv .1 .1
+
+step-requires : tie.Need-step-requires Inv-loop μ-loop
+step-requires c κs =
+    let s = c .before .before in
+    let l = s .before .before in
+    let k = l .loop .k in
+    subst (StepPre (l .loop .s) (s .select .result) (c .row .result)) (counted (l .loop .inv .0))
+    (step-ok 48 stepTable (l .before .args .mode) (k - 1) (l .loop .s) (s .select .result) (c .row .result) (chosen s) (found c)
+    (omega arith) (l .loop .inv .1 .0) (omega arith))
+
+add-k-2 : tie.Need-add-k-2 Inv-loop μ-loop
+add-k-2 c = let l = c .before .before .before .before .before in omega (arith, l .loop .inv .1 .0 .most)
+
+loop-less : tie.Need-loop-less Inv-loop μ-loop
+loop-less c = omega arith
 
 pub run-spec : {M : Type 1} → statement M
 run-spec =

@@ -48,7 +48,10 @@ begun-is c = c .begun .ensures ∙ ap (λ w. begun 48 reciprocalTable (gauss w))
 
 ran : (c : tie.After-run) → let s = start (c .before .before .before) .args in
     c .run .result ≡ ended 48 stepTable reciprocalTable (s .n) (turned (gauss (s .p)))
-ran c = c .run .ensures ∙ ap (run 48 stepTable Log 2 (start (c .before .before .before) .args .n - 2)) (begun-is (c .before))
+ran c =
+    let n = start (c .before .before .before) .args .n in
+    let steps : c .run .result ≡ run 48 stepTable Log 2 (n - 2) (c .before .begun .result) = c .run .ensures in
+    steps ∙ ap (run 48 stepTable Log 2 (n - 2)) (begun-is (c .before))
 
 -- the end of the steps, once the parts of the sum are read
 abbrev last : tie.After-struct-told4 → tie.After-run
@@ -80,8 +83,9 @@ returns c =
     let k = back (exponent-fit u) ∙ (ap (λ b. b -ℤ pos 48) (word-is u ∙ ap pos (length-is l))) in
     let q = back (sfits-mag (t .before .before .before .turned .result .quadrant) (t .before .struct-told .given .1 .0 .1))
     ∙ ap (λ (e : Turn). e .quadrant) (t .before .before .before .turned .ensures) in
-    let b = back (sfits-mag (c .error-bound .result) (c .error-bound .ok))
-    ∙ (c .error-bound .ensures ∙ (ap (boundAt n) (x-is t) ∙ bound-made (lit≤ tt) (s .pre))) in
+    let bound : c .error-bound .result ≡ boundAt n (toZ w64 (ofZ w64 (t .before .before .before .turned .result .point .x)))
+    = c .error-bound .ensures in
+    let b = back (sfits-mag (c .error-bound .result) (c .error-bound .ok)) ∙ (bound ∙ (ap (boundAt n) (x-is t) ∙ bound-made (lit≤ tt) (s .pre))) in
     let left = u .less-one .ensures ∙ ap (λ (e : State). point (gauss (e .point) -ᵍ one 48)) (ran r) in
     λ i. record { value = record { x = x i; y = y i }; «binary_exponent» = k i; quadrant = q i; «error_bound» = b i; remainder = left i }
 

@@ -29,6 +29,13 @@ decide-requires c κs = search needs
 cast-t11 : tie.Need-cast-t11
 cast-t11 c = search needs
 
+returns-3 : tie.Need-returns-3
+returns-3 c =
+    let w = c .before .before in
+    let i = w .before .before in
+    let s = i .before .before .before .before .before .before .before .args in
+    all-done (s .a .now) (s .b .now) (s .out .now) (ltb-false _ _ (roomy (i .before .before))) (i .before .decide .ensures) (i .if2 .left) (w .write .ensures)
+
 returns-2 : tie.Need-returns-2
 returns-2 c =
     let s = c .before .before .before .before .before .before .before .args in
@@ -42,13 +49,6 @@ write-requires c κs =
 
 same-length : tie.Need-same-length
 same-length c = search needs
-
-returns-3 : tie.Need-returns-3
-returns-3 c =
-    let w = c .before .before in
-    let i = w .before .before in
-    let s = i .before .before .before .before .before .before .before .args in
-    all-done (s .a .now) (s .b .now) (s .out .now) (ltb-false _ _ (roomy (i .before .before))) (i .before .decide .ensures) (i .if2 .left) (w .write .ensures)
 
 pub merge-spec : {M : Type 1} → statement M
 merge-spec =

@@ -45,14 +45,6 @@ enum-told c = search needs
 returns-2 : tie.Need-returns-2
 returns-2 c = let r = c .before .before in rw (is-read r, c .enum-told .given .1)
 
-returns-3 : tie.Need-returns-3
-returns-3 c =
-    let k = c .before .before in
-    let r = k .before .before in
-    let s = r .before .before .before .before .before .before in
-    let low : leZ (k .serial2 .given .0 .0) (s .args .last) ≡ true = rw (back (sfits-mag _ (c .before .known-told .given .0 .1)), back (s .fits .last)) at (c .if2 .taken) in
-    rw (is-read r, k .serial2 .given .1, low)
-
 returns-4 : tie.Need-returns-4
 returns-4 c =
     let k = c .before .before in
@@ -61,6 +53,14 @@ returns-4 c =
     let f = sfits-mag (k .serial2 .given .0 .0) (c .before .known-told .given .0 .1) in
     let high : leZ (k .serial2 .given .0 .0) (s .args .last) ≡ false = rw (back f, back (s .fits .last)) at (c .if2 .left) in
     rw (is-read r, k .serial2 .given .1, high, back f)
+
+returns-3 : tie.Need-returns-3
+returns-3 c =
+    let k = c .before .before in
+    let r = k .before .before in
+    let s = r .before .before .before .before .before .before in
+    let low : leZ (k .serial2 .given .0 .0) (s .args .last) ≡ true = rw (back (sfits-mag _ (c .before .known-told .given .0 .1)), back (s .fits .last)) at (c .if2 .taken) in
+    rw (is-read r, k .serial2 .given .1, low)
 
 pub read-front-spec : {M : Type 1} → statement M
 read-front-spec =

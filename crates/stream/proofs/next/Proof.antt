@@ -84,17 +84,6 @@ module _ (k : tie.After-known-told) where
   is-serial : serialOf (readLine (line read)) ≡ Is serial
   is-serial = numbered read ∙ k .before .serial2 .given .1
 
-returns : tie.Need-returns
-returns c =
-    let r = c .before .before .before in
-    let t = r .before .before in
-    let k = t .before in
-    let n = read k in
-    let low : leZ (serial k) (state n .largest) ≡ true = rw (back (serial-fits k), back (fits n)) at (t .if1 .taken) in
-    rw (not-above (state n) (line n) (is-serial k) low)
-    (wrote (refusedReply (serial k) (pos 7)) (start n .pre) (seven (start n .args .out .now) (serial-fits k) (r .refuse .ensures)) (fits n) refl
-    (c .counted .ensures))
-
 -- ---- its own answer, where it has no serial or one above the largest
 module _ (c : tie.After-counted2) where
   abbrev joined : tie.At-match-came
@@ -118,6 +107,18 @@ returns-2 c =
     let high : leZ (serial k) (state n .largest) ≡ false = rw (back (serial-fits k), back (fits n)) at (w .3 .left) in
     rw (above (state n) (line n) (is-serial k) high) (own c (serial-fits k) (w .4)))
     (λ w. rw (malformed (state n) (line n) (numbered n ∙ w .1 .given .1)) (own c (fits n) (w .2)))
+
+-- ---- turned away, where its serial is not above the largest
+returns : tie.Need-returns
+returns c =
+    let r = c .before .before .before in
+    let t = r .before .before in
+    let k = t .before in
+    let n = read k in
+    let low : leZ (serial k) (state n .largest) ≡ true = rw (back (serial-fits k), back (fits n)) at (t .if1 .taken) in
+    rw (not-above (state n) (line n) (is-serial k) low)
+    (wrote (refusedReply (serial k) (pos 7)) (start n .pre) (seven (start n .args .out .now) (serial-fits k) (r .refuse .ensures)) (fits n) refl
+    (c .counted .ensures))
 
 read-line-requires : tie.Need-read-line-requires
 read-line-requires c κs = search needs

@@ -1,5 +1,6 @@
 -- `text::put_figures` meets its contract: the fields of each kind are the definition's.
 use mathlib.Core.Path.{_≡_, refl, _∙_, ap}
+use mathlib.Core.List.{List}
 use Prim.Native.Nat.{ℕ, _<_, _^_}
 use lib.IntN.{ℤ, pos}
 use lib.ListN.{getD}
@@ -8,6 +9,8 @@ use mir.Syntax.{w64}
 use mir.Val.{toZ, ofZ}
 use borrow.Author.Needs.{needs}
 use Rattle.word.proofs.Fits.{back, sfits-mag}
+use Rattle.buffer.specs.Lines.{lineBytes}
+use Rattle.buffer.proofs.Fitting.{Fitted}
 use Rattle.answer.specs.declared.Answer.the-variants.{Answered}
 use Rattle.answer.specs.Record.{recordOf}
 use Rattle.text.proofs.Call.{replied}
@@ -23,6 +26,11 @@ held : (r : tie.After-record) (i : ℕ) → mag (at r i) < 2 ^ 63 →
 held r i h = back (sfits-mag (at r i) h) ∙ ap (λ l. getD l i (pos 0)) (r .record .ensures)
 
 -- ---- the contract
+-- a line that was put is that of a serial and fields which equal its own
+put-as : (b b′ word : List ℕ) (serial serial′ : ℤ) (zs zs′ : List ℤ) (end : ℕ) → Fitted b 0 (lineBytes serial word zs) b′ end →
+    serial ≡ serial′ → zs ≡ zs′ → Fitted b 0 (lineBytes serial′ word zs′) b′ end
+put-as b b′ word serial serial′ zs zs′ end p s z = rw (s, z) at p
+
 returns : tie.Need-returns
 unfolding recordOf
 returns c =
@@ -38,16 +46,17 @@ returns c =
     let s = r .before .before in
     rw (e .enum-told .given .1)
     (replied refl
-    (rw (
-      back (s .fits .serial),
+    (put-as _ _ _ _ _ _ _ _ (p .put-line .ensures) (back (s .fits .serial))
+    (simp (
       back (s .fits .n),
-      held r 1 (t16 .t16 .given),
-      held r 2 (t19 .t19 .given),
-      held r 6 (t22 .t22 .given),
-      held r 7 (t25 .t25 .given),
-      held r 3 (t28 .t28 .given),
-      held r 5 (t31 .t31 .given),
-    ) at (p .put-line .ensures)))
+      held r,
+      t16 .t16 .given,
+      t19 .t19 .given,
+      t22 .t22 .given,
+      t25 .t25 .given,
+      t28 .t28 .given,
+      t31 .t31 .given,
+    ))))
 
 returns-2 : tie.Need-returns-2
 unfolding recordOf
@@ -65,17 +74,18 @@ returns-2 c =
     let s = r .before .before in
     rw (e .enum-told2 .given .1)
     (replied refl
-    (rw (
-      back (s .fits .serial),
+    (put-as _ _ _ _ _ _ _ _ (p .put-line2 .ensures) (back (s .fits .serial))
+    (simp (
       back (s .fits .n),
-      held r 1 (t40 .t40 .given),
-      held r 2 (t43 .t43 .given),
-      held r 6 (t46 .t46 .given),
-      held r 7 (t49 .t49 .given),
-      held r 3 (t52 .t52 .given),
-      held r 4 (t55 .t55 .given),
-      held r 5 (t58 .t58 .given),
-    ) at (p .put-line2 .ensures)))
+      held r,
+      t40 .t40 .given,
+      t43 .t43 .given,
+      t46 .t46 .given,
+      t49 .t49 .given,
+      t52 .t52 .given,
+      t55 .t55 .given,
+      t58 .t58 .given,
+    ))))
 
 -- ---- the other needs
 record-requires : tie.Need-record-requires

@@ -1,14 +1,17 @@
 -- `text::read_line` meets its contract: the serial, and what its kind asks for.
 use mathlib.Core.Path.{_≡_, ap, sym, _∙_}
 use mathlib.Core.Bool.{cond}
-use mathlib.Core.List.{List}
-use Prim.Native.Nat.{ℕ, _+_}
+use mathlib.Core.List.{List, [], _∷_}
+use Prim.Native.Nat.{ℕ, _+_, _≤_}
 use native.Mathlib.Omega.{arith}
 use lib.IntN.{ℤ, pos}
 use mir.Syntax.{w64}
 use mir.Val.{SFits}
 use borrow.Author.Needs.{needs}
 use Rattle.algebra.specs.Order.{_⩽_, _⋖_}
+use Rattle.algebra.proofs.Reify.{reify}
+use Rattle.algebra.proofs.Order.{pos-mono}
+use Rattle.algebra.proofs.Linear.{lin, lin<, _&_, _&<_, none}
 use Rattle.word.specs.Compare.{between}
 use Rattle.word.proofs.Fits.{back, sfits-mag}
 use Rattle.word.proofs.Compare.{ltZ-true, ltZ-false, is-between, below-between, above-between}
@@ -48,13 +51,20 @@ module _ (c : tie.After-known-told) where
   ranged : readLine line ≡ cond (between (pos 1) (pos 9999999) serial) (kindLine serial (fieldsAt line next)) Malformed
   ranged = front (c .before .before .before) ∙ ap (λ n. serialLine n (fieldsAt line next)) (c .before .serial .given .1)
 
+-- what a comparison with another number says of the range's end
+at-most : {m : ℕ} {z : ℤ} → z ⩽ pos m → m ≤ 9999999 → z ⩽ pos 9999999
+at-most {m} {z} h l = lin (z ∷ pos m ∷ []) (h & pos-mono l & none) (search reify depth 20) tt
+
+above : {m : ℕ} {z : ℤ} → pos m ⋖ z → 9999999 ≤ m → pos 9999999 ⋖ z
+above {m} {z} h l = lin< (z ∷ pos m ∷ []) (h &< pos-mono l & none) (search reify depth 20) tt
+
 -- once that is in its range
 kinds : (c : tie.Else2) → readLine (line (c .before .before)) ≡ kindLine (serial (c .before .before))
     (fieldsAt (line (c .before .before)) (next (c .before .before)))
 kinds c =
     let k = c .before .before in
     let least : pos 1 ⩽ serial k = ltZ-false (rw (back (fits k)) at (c .before .if1 .left)) in
-    let most : serial k ⩽ pos 9999999 = ltZ-false (rw (back (fits k)) at (c .if2 .left)) in
+    let most : serial k ⩽ pos 9999999 = at-most (ltZ-false (rw (back (fits k)) at (c .if2 .left))) (omega arith) in
     rw (is-between least most) at (ranged k)
 
 find-byte-requires : tie.Need-find-byte-requires
@@ -81,7 +91,7 @@ returns-2 c =
 returns-3 : tie.Need-returns-3
 returns-3 c =
     let k = c .before .before in
-    let over : pos 9999999 ⋖ serial k = ltZ-true (rw (back (fits k)) at (c .if2 .taken)) in
+    let over : pos 9999999 ⋖ serial k = above (ltZ-true (rw (back (fits k)) at (c .if2 .taken))) (omega arith) in
     rw (ranged k, above-between (pos 1) over)
 
 add-kind-line : tie.Need-add-kind-line

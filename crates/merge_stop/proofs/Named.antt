@@ -12,16 +12,16 @@ use lib.ListN.{length}
 use Rattle.buffer.proofs.Either.{either}
 use Rattle.scan.specs.Fields.{sameBytes}
 use Rattle.stream.specs.Machine.{lines}
 use Rattle.merge.specs.declared.Front.{Front}
 use Rattle.merge.specs.declared.Choice.{Choice}
-use Rattle.merge.specs.declared.Stop.{Stop}
+use Rattle.merge_stop.specs.declared.Stop.{Stop}
 use Rattle.merge.specs.Merge.{frontLine, front, choice, Merge, stopped, _then_, act, follow, mergeFrom, merge}
 use Rattle.merge.specs.Call.{firstLine, behind}
-use Rattle.merge.specs.Stop.{named, none, chosen, met, stopFrom, stop}
+use Rattle.merge_stop.specs.Stop.{named, none, chosen, met, stopFrom, stop}
 use Rattle.merge.proofs.Rules.{BySerial, below, above, twins, differ, by-serial}
 use Rattle.merge.proofs.Turn.{hd, tl, one-sheet, lone-first, lone-second, front-line, behind-lines, Left}
 use Rattle.merge.specs.declared.Front.the-variants.{End, Malformed, Fallen, Risen}
 use Rattle.merge.specs.declared.Choice.the-variants.{Done, First, Passed, Second, Refused}
 
 -- ---- by lines: a choice does not fall on a sheet that has no line left, whatever would follow there
 module _ (h i : ℕ) (same : Bool) (first second : ℤ → Stop) where

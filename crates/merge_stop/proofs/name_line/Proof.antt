@@ -1,9 +1,9 @@
--- `merge::name_line` meets its contract: case by case.
+-- `merge_stop::name_line` meets its contract: case by case.
 use borrow.Author.Needs.{needs}
 use borrow.Author.Tests.{ne-eqb}
-use Rattle.merge.specs.Stop.{named}
-use Rattle.merge.proofs.name_line.Statement.{statement}
-use Rattle.merge.proofs.name_line.Tie as tie
+use Rattle.merge_stop.specs.Stop.{named}
+use Rattle.merge_stop.proofs.name_line.Statement.{statement}
+use Rattle.merge_stop.proofs.name_line.Tie as tie
 
 enum-told : tie.Need-enum-told
 enum-told c = search needs

@@ -1,4 +1,4 @@
--- `merge::stopped_at` meets its contract: what is left to merge stops as the whole does, and no more lines are counted than there are bytes.
+-- `merge_stop::stopped_at` meets its contract: what is left to merge stops as the whole does, and no more lines are counted than there are bytes.
 use mathlib.Core.Path.{_≡_, refl, sym, _∙_}
 use Prim.Native.Nat.{_+_, _≤_}
 use native.Mathlib.Omega.{arith}
@@ -6,11 +6,11 @@ use borrow.Author.Needs.{needs}
 use lib.ListN.{length}
 use Rattle.word.proofs.Fits.{sfits-mag, word-pos}
 use Rattle.stream.specs.Machine.{lines}
-use Rattle.merge.specs.Stop.{stop}
+use Rattle.merge_stop.specs.Stop.{stop}
 use Rattle.merge.proofs.Turn.{Left, whole, held, behind-first, behind-second, first-less, passed-less, second-less}
-use Rattle.merge.proofs.Named.{stopRest, by, first, passed, second, both}
-use Rattle.merge.proofs.stopped_at.Statement.{statement}
-use Rattle.merge.proofs.stopped_at.Tie as tie
+use Rattle.merge_stop.proofs.Named.{stopRest, by, first, passed, second, both}
+use Rattle.merge_stop.proofs.stopped_at.Statement.{statement}
+use Rattle.merge_stop.proofs.stopped_at.Tie as tie
 
 abbrev Inv-loop : tie.InvT-loop
 Inv-loop a b p₀ q₀ f₀ g₀ h₀ i₀ p q f g h i =
