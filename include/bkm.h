@@ -7,7 +7,8 @@
  *
  * Every input is allowed: what cannot be answered is refused under a number, BKM_REFUSED_* below,
  * and no call fails in another way. None keeps memory or has state of its own, so calls may be
- * made from any thread, at the same time too, as long as no two of them are lent the same output.
+ * made from any thread, at the same time too, as long as nobody else writes what a call is lent
+ * while it runs, or reads its output.
  *
  * What a call reads or writes is lent as an address and a length in bytes; with the length 0 the
  * address may be NULL. Output may not overlap what the same call reads; the two sheets of a merge,
