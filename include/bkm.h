@@ -1,5 +1,5 @@
-/* EXP and LOG of points in units of 1/2^48, LOG in doubles, the lines of a sheet, and two sheets
- * merged into one: the C face of the library.
+/* EXP and LOG of points in units of 1/2^48, EXP by the register too, LOG in doubles, the lines of a
+ * sheet, and two sheets merged into one: the C face of the library.
  *
  * Link target/staticlib/libcontroller.a, which `rt staticlib controller` writes.
  *
@@ -42,8 +42,9 @@ enum bkm_refusal {
 /* Sizes in bytes: of a record, and the least room for the answer to a line. */
 enum { BKM_RECORD_BYTES = 64, BKM_ANSWER_ROOM = 128 };
 
-/* What bkm_exp and bkm_log write: a record of 64 bytes, eight signed numbers of 8 bytes each, two's
- * complement, low byte first, in this order. In a refused record all but the first are 0.
+/* What bkm_exp, bkm_exp_register and bkm_log write: a record of 64 bytes, eight signed numbers of 8
+ * bytes each, two's complement, low byte first, in this order. In a refused record all but the
+ * first are 0.
  */
 typedef struct {
     int64_t refusal;                  /* the refusal number, or 0 */
@@ -103,6 +104,13 @@ static inline bkm_record bkm_read_record(const uint8_t *bytes)
  * is left over.
  */
 int64_t bkm_exp(int64_t n, int64_t ex, int64_t ey, int64_t sx, int64_t sy, uint8_t *out, size_t out_len);
+
+/* The same by the register engine, the doubled form that the sorter's maker builds in hardware: the
+ * same record and the same number as bkm_exp, byte for byte, for every input. After step n its
+ * register is 2^(n+1) times the remainder of the call with that n. It takes 6 to 7 times as long as
+ * bkm_exp: it is there to hold a register in hardware to.
+ */
+int64_t bkm_exp_register(int64_t n, int64_t ex, int64_t ey, int64_t sx, int64_t sy, uint8_t *out, size_t out_len);
 
 /* The logarithm of the point (x, y), by steps 3 to n, into a record at out. Returns the refusal
  * number, or 0; refused with 6 where out_len is under BKM_RECORD_BYTES.

@@ -38,6 +38,17 @@ static int refused(const uint8_t *out, int64_t refusal)
     return holds(out, (const int64_t[8]){refusal});
 }
 
+/* EXP by the register hands back this number and writes the same bytes as EXP. */
+static int same_by_register(int64_t n, int64_t ex, int64_t ey, int64_t sx, int64_t sy, int64_t refusal)
+{
+    uint8_t out[80], by_register[80];
+    memset(out, 0xa5, sizeof out);
+    memset(by_register, 0xa5, sizeof by_register);
+    return bkm_exp(n, ex, ey, sx, sy, out, sizeof out) == refusal &&
+           bkm_exp_register(n, ex, ey, sx, sy, by_register, sizeof by_register) == refusal &&
+           memcmp(out, by_register, sizeof out) == 0;
+}
+
 static int unread(bkm_units_answer read)
 {
     return read.refusal == 9 && read.x == 0 && read.y == 0;
@@ -80,6 +91,16 @@ int main(void)
     check("a start of -2^63", bkm_exp(40, 0, 0, INT64_MIN, 0, out, BKM_RECORD_BYTES) == 3 && refused(out, 3));
     check("a start of 2^58 is taken", bkm_exp(1, 0, 0, most, -most, out, BKM_RECORD_BYTES) == 0);
 
+    check("EXP by the register of 0.51 + 0.29i: the same bytes",
+          same_by_register(40, INT64_C(143552238122434), INT64_C(81627743246090), one, 0, 0));
+    check("and of 8 - 8i, by one step and by all",
+          same_by_register(1, eight, -eight, most, -most, 0) && same_by_register(40, eight, -eight, one, 0, 0));
+    check("and the same refusals",
+          same_by_register(41, INT64_MAX, 0, INT64_MIN, 0, 1) && same_by_register(40, eight + 1, 0, INT64_MIN, 0, 2) &&
+              same_by_register(40, 0, -eight, 0, most + 1, 3));
+    bkm_exp_register(1, -one / 4 - 1, -3 * one / 8, one, 0, out, BKM_RECORD_BYTES);
+    check("a unit below -1/4, and at -3/8: the first digit is -1", bkm_read_record(out).x == one / 2 && bkm_read_record(out).y == 0);
+
     check("LOG of one: k is 1 and q is 0", bkm_log(40, one, 0, out, BKM_RECORD_BYTES) == 0 && bkm_read_record(out).k == 1 && bkm_read_record(out).q == 0);
     check("with N = 3 it comes to (1080 - 63i)/1024", bkm_log(3, one, 0, out, BKM_RECORD_BYTES) == 0 && bkm_read_record(out).remainder_x == 56 * (one >> 10) && bkm_read_record(out).remainder_y == -63 * (one >> 10));
     check("LOG of (5, -5): q is -1", bkm_log(40, 5, -5, out, BKM_RECORD_BYTES) == 0 && bkm_read_record(out).q == -1);
@@ -90,8 +111,10 @@ int main(void)
     check("LOG with N = 2", bkm_log(2, one, 0, out, BKM_RECORD_BYTES) == 1 && refused(out, 1));
 
     memset(out, 0x5a, sizeof out);
-    check("63 bytes are refused with 6", bkm_exp(0, 0, 0, 0, 0, out, 63) == 6 && bkm_log(0, 0, 0, out, 63) == 6);
-    check("and so is no buffer at all", bkm_exp(40, 0, 0, one, 0, NULL, 0) == BKM_REFUSED_ROOM && bkm_log(40, one, 0, NULL, 0) == BKM_REFUSED_ROOM);
+    check("63 bytes are refused with 6", bkm_exp(0, 0, 0, 0, 0, out, 63) == 6 && bkm_exp_register(0, 0, 0, 0, 0, out, 63) == 6 && bkm_log(0, 0, 0, out, 63) == 6);
+    check("and so is no buffer at all",
+          bkm_exp(40, 0, 0, one, 0, NULL, 0) == BKM_REFUSED_ROOM && bkm_exp_register(40, 0, 0, one, 0, NULL, 0) == BKM_REFUSED_ROOM &&
+              bkm_log(40, one, 0, NULL, 0) == BKM_REFUSED_ROOM);
     check("and nothing is written", all(out, sizeof out, 0x5a));
 
     const char *line = "1\tEXP\t40\t0\t0\t281474976710656\t0", *answer = "1\tEXP\t40\t281474976710656\t0\t0\t0\t0\t2128\n";

@@ -36,13 +36,18 @@ static int64_t nearest_multiple(int64_t part, int64_t unit) {
     return (2 * part + 31 * unit) / (2 * unit) - 15;
 }
 
-struct answer engine_exp(int64_t n, int64_t ex, int64_t ey, int64_t sx, int64_t sy) {
+/* What EXP's steps are given, with k and the bound; first the refusal number or 0. */
+struct reduced {
+    int64_t refusal, ex, ey, x, y, k, bound;
+};
+
+static inline struct reduced reduced(int64_t n, int64_t ex, int64_t ey, int64_t sx, int64_t sy) {
     if (n < 1 || n > 40)
-        return refused(1);
+        return (struct reduced){.refusal = 1};
     if (exponent_part_is_refused(ex) || exponent_part_is_refused(ey))
-        return refused(2);
+        return (struct reduced){.refusal = 2};
     if (part_is_refused(sx) || part_is_refused(sy))
-        return refused(3);
+        return (struct reduced){.refusal = 3};
     int64_t x = sx, y = sy, k = 0;
     if (!in_rectangle(ex, ey)) {
         int64_t p = nearest_multiple(ey, EIGHTH_TURN);
@@ -59,18 +64,46 @@ struct answer engine_exp(int64_t n, int64_t ex, int64_t ey, int64_t sx, int64_t 
         k = nearest_multiple(ex, LN_2);
         ex -= k * LN_2;
     }
-    int64_t bound = share(8, x, y, n) + 2 * n;
+    return (struct reduced){0, ex, ey, x, y, k, share(8, x, y, n) + 2 * n};
+}
+
+struct answer engine_exp(int64_t n, int64_t ex, int64_t ey, int64_t sx, int64_t sy) {
+    struct reduced r = reduced(n, ex, ey, sx, sy);
+    if (r.refusal)
+        return refused(r.refusal);
+    int64_t x = r.x, y = r.y;
     for (int64_t i = 1; i <= n; i++) {
-        int64_t dx = (ex >= (ONE / 8 * 3) >> i) - (ex < (-ONE / 2) >> i);
-        int64_t dy = (ey >= (ONE / 16 * 13) >> i) - (ey < (-ONE / 4 * 3) >> i);
+        int64_t dx = (r.ex >= (ONE / 8 * 3) >> i) - (r.ex < (-ONE / 2) >> i);
+        int64_t dy = (r.ey >= (ONE / 16 * 13) >> i) - (r.ey < (-ONE / 4 * 3) >> i);
         struct entry entry = STEPS[i - 1][dx + 1][dy + 1];
         int64_t old_x = x, to_nearest = INT64_C(1) << (i - 1);
         x += (dx * x - dy * y + to_nearest) >> i;
         y += (dx * y + dy * old_x + to_nearest) >> i;
-        ex -= entry.re;
-        ey -= entry.im;
+        r.ex -= entry.re;
+        r.ey -= entry.im;
     }
-    return (struct answer){.x = x, .y = y, .k = k, .bound = bound, .remainder_x = ex, .remainder_y = ey};
+    return (struct answer){.x = x, .y = y, .k = r.k, .bound = r.bound,
+                           .remainder_x = r.ex, .remainder_y = r.ey};
+}
+
+struct answer engine_exp_register(int64_t n, int64_t ex, int64_t ey, int64_t sx, int64_t sy) {
+    struct reduced r = reduced(n, ex, ey, sx, sy);
+    if (r.refusal)
+        return refused(r.refusal);
+    int64_t x = r.x, y = r.y, alpha_x = 2 * r.ex, alpha_y = 2 * r.ey;
+    for (int64_t i = 1; i <= n; i++) {
+        /* Looked at are x in eighths and y in sixteenths. */
+        int64_t cut_x = alpha_x >> 45, cut_y = alpha_y >> 44;
+        int64_t dx = (cut_x >= 3) - (cut_x <= -5), dy = (cut_y >= 13) - (cut_y <= -13);
+        struct entry entry = STEPS[i - 1][dx + 1][dy + 1];
+        int64_t old_x = x, to_nearest = INT64_C(1) << (i - 1), scale = INT64_C(2) << i;
+        x += (dx * x - dy * y + to_nearest) >> i;
+        y += (dx * y + dy * old_x + to_nearest) >> i;
+        alpha_x = 2 * alpha_x - scale * entry.re;
+        alpha_y = 2 * alpha_y - scale * entry.im;
+    }
+    return (struct answer){.x = x, .y = y, .k = r.k, .bound = r.bound,
+                           .remainder_x = alpha_x >> (n + 1), .remainder_y = alpha_y >> (n + 1)};
 }
 
 /* 64 times the reciprocal of (x + iy)/32, each part as floor(value + 1/2). One division serves both: 2^27/S is cut, but no
@@ -135,6 +168,10 @@ static int64_t write_record(struct answer answer, uint8_t *out) {
 
 int64_t plain_exp(int64_t n, int64_t ex, int64_t ey, int64_t sx, int64_t sy, uint8_t *out, size_t len) {
     return len < sizeof(struct answer) ? 6 : write_record(engine_exp(n, ex, ey, sx, sy), out);
+}
+
+int64_t plain_exp_register(int64_t n, int64_t ex, int64_t ey, int64_t sx, int64_t sy, uint8_t *out, size_t len) {
+    return len < sizeof(struct answer) ? 6 : write_record(engine_exp_register(n, ex, ey, sx, sy), out);
 }
 
 int64_t plain_log(int64_t n, int64_t x, int64_t y, uint8_t *out, size_t len) {

@@ -11,10 +11,13 @@ struct answer {
 };
 
 struct answer engine_exp(int64_t n, int64_t ex, int64_t ey, int64_t sx, int64_t sy);
+/* By the register, which is 2^i times the exponent before step i. */
+struct answer engine_exp_register(int64_t n, int64_t ex, int64_t ey, int64_t sx, int64_t sy);
 struct answer engine_log(int64_t n, int64_t px, int64_t py);
 
-/* As bkm_exp and bkm_log of include/bkm.h. */
+/* As bkm_exp, bkm_exp_register and bkm_log of include/bkm.h. */
 int64_t plain_exp(int64_t n, int64_t ex, int64_t ey, int64_t sx, int64_t sy, uint8_t *out, size_t len);
+int64_t plain_exp_register(int64_t n, int64_t ex, int64_t ey, int64_t sx, int64_t sy, uint8_t *out, size_t len);
 int64_t plain_log(int64_t n, int64_t x, int64_t y, uint8_t *out, size_t len);
 
 struct doubles {

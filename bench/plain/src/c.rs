@@ -7,6 +7,7 @@ pub struct Version {
     /// The sheet program.
     pub program: &'static str,
     pub exp_record: fn(i64, i64, i64, i64, i64, &mut [u8]) -> i64,
+    pub exp_register_record: fn(i64, i64, i64, i64, i64, &mut [u8]) -> i64,
     pub log_record: fn(i64, i64, i64, &mut [u8]) -> i64,
     pub log_doubles: fn(i64, i64, i64) -> DoublesAnswer,
     pub read_doubles: fn(Doubles) -> UnitsAnswer,
@@ -23,6 +24,10 @@ pub const VERSION: Option<Version> = Some(Version {
         // SAFETY: the pointer and the length are those of one exclusive slice.
         unsafe { plain_exp(n, ex, ey, sx, sy, out.as_mut_ptr(), out.len()) }
     },
+    exp_register_record: |n, ex, ey, sx, sy, out| {
+        // SAFETY: as above.
+        unsafe { plain_exp_register(n, ex, ey, sx, sy, out.as_mut_ptr(), out.len()) }
+    },
     // SAFETY: as above.
     log_record: |n, x, y, out| unsafe { plain_log(n, x, y, out.as_mut_ptr(), out.len()) },
     // SAFETY: both take numbers alone.
@@ -33,6 +38,15 @@ pub const VERSION: Option<Version> = Some(Version {
 #[cfg(plain_c)]
 extern "C" {
     fn plain_exp(n: i64, ex: i64, ey: i64, sx: i64, sy: i64, out: *mut u8, len: usize) -> i64;
+    fn plain_exp_register(
+        n: i64,
+        ex: i64,
+        ey: i64,
+        sx: i64,
+        sy: i64,
+        out: *mut u8,
+        len: usize,
+    ) -> i64;
     fn plain_log(n: i64, x: i64, y: i64, out: *mut u8, len: usize) -> i64;
     fn plain_log_doubles(n: i64, x: i64, y: i64) -> DoublesAnswer;
     fn plain_read_doubles(doubles: Doubles) -> UnitsAnswer;

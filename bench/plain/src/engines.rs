@@ -1,4 +1,5 @@
-//! EXP and LOG, and the record of 64 bytes that the C calls fill.
+//! EXP, by the exponent and by the register, and LOG, and the record of 64 bytes that the C calls
+//! fill.
 
 use crate::tables::{EIGHTH_TURN, HALF_LN_2, LN_2, RECIPROCAL_LOGS, STEPS};
 
@@ -70,7 +71,19 @@ fn nearest_multiple(part: i64, unit: i64) -> i64 {
     (2 * part + unit).div_euclid(2 * unit)
 }
 
-pub fn exp(n: i64, ex: i64, ey: i64, sx: i64, sy: i64) -> Result<Figures, Refusal> {
+/// What EXP's steps are given, with k and the bound of what they answer.
+struct Reduced {
+    ex: i64,
+    ey: i64,
+    x: i64,
+    y: i64,
+    k: i64,
+    bound: i64,
+}
+
+// Inlined in both engines, as EXP is slower with a call.
+#[inline(always)]
+fn reduced(n: i64, ex: i64, ey: i64, sx: i64, sy: i64) -> Result<Reduced, Refusal> {
     if !(1..=40).contains(&n) {
         return Err(Refusal::Steps);
     }
@@ -92,7 +105,11 @@ pub fn exp(n: i64, ex: i64, ey: i64, sx: i64, sy: i64) -> Result<Figures, Refusa
         k = nearest_multiple(ex, LN_2);
         ex -= k * LN_2;
     }
-    let bound = share(8, x, y, n) + 2 * n;
+    Ok(Reduced { ex, ey, x, y, k, bound: share(8, x, y, n) + 2 * n })
+}
+
+pub fn exp(n: i64, ex: i64, ey: i64, sx: i64, sy: i64) -> Result<Figures, Refusal> {
+    let Reduced { mut ex, mut ey, mut x, mut y, k, bound } = reduced(n, ex, ey, sx, sy)?;
     let digit = |e: i64, low: i64, high: i64| i64::from(e >= high) - i64::from(e < low);
     for (i, entries) in steps(1, n) {
         let dx = digit(ex, (-ONE / 2) >> i, (ONE / 8 * 3) >> i);
@@ -103,6 +120,23 @@ pub fn exp(n: i64, ex: i64, ey: i64, sx: i64, sy: i64) -> Result<Figures, Refusa
         ey -= im;
     }
     Ok(Figures { x, y, k, q: 0, bound, remainder_x: ex, remainder_y: ey })
+}
+
+/// EXP by the register, which is 2^i times the exponent before step i.
+pub fn exp_register(n: i64, ex: i64, ey: i64, sx: i64, sy: i64) -> Result<Figures, Refusal> {
+    let Reduced { ex, ey, mut x, mut y, k, bound } = reduced(n, ex, ey, sx, sy)?;
+    let (mut rx, mut ry) = (2 * ex, 2 * ey);
+    let digit = |cut: i64, low: i64, high: i64| i64::from(cut >= high) - i64::from(cut <= low);
+    for (i, entries) in steps(1, n) {
+        // Looked at are x in eighths and y in sixteenths.
+        let (dx, dy) = (digit(rx >> 45, -5, 3), digit(ry >> 44, -13, 13));
+        let (re, im) = entry(entries, dx, dy);
+        (x, y) = step(x, y, dx, dy, i, 1 << (i - 1));
+        rx = 2 * rx - (re << (i + 1));
+        ry = 2 * ry - (im << (i + 1));
+    }
+    let (remainder_x, remainder_y) = (rx >> (n + 1), ry >> (n + 1));
+    Ok(Figures { x, y, k, q: 0, bound, remainder_x, remainder_y })
 }
 
 /// 64 times the reciprocal of (x + iy)/32, each part as floor(value + 1/2). One division serves
@@ -175,6 +209,11 @@ fn write_record(answer: Result<Figures, Refusal>, out: &mut [u8]) -> i64 {
 #[inline(never)]
 pub fn exp_record(n: i64, ex: i64, ey: i64, sx: i64, sy: i64, out: &mut [u8]) -> i64 {
     write_record(exp(n, ex, ey, sx, sy), out)
+}
+
+#[inline(never)]
+pub fn exp_register_record(n: i64, ex: i64, ey: i64, sx: i64, sy: i64, out: &mut [u8]) -> i64 {
+    write_record(exp_register(n, ex, ey, sx, sy), out)
 }
 
 #[inline(never)]

@@ -5,11 +5,11 @@ use plain::{c, engines, merge, sheet};
 use reference::answer::{write_record, RECORD_BYTES};
 use reference::damage::{every_damage, longest_line, merges};
 use reference::doubles::{doubles_answer, units_answer};
-use reference::edges::{exp_eighths, exp_refusals, exp_scales, far_exp_records, EXP, LOG};
+use reference::edges::{exp_edges, EXP, LOG};
 use reference::merge::merge_into;
 use reference::samples::{self, double, exp_input, line, log_input, Random};
 use reference::width::WIDTH_48 as W;
-use reference::{exponential, logarithm};
+use reference::{exponential, logarithm, register};
 use std::io::Write;
 use std::process::{Command, Stdio};
 use std::thread;
@@ -26,15 +26,27 @@ fn outcome(call: impl FnOnce(&mut [u8]) -> i64) -> (i64, [u8; RECORD_BYTES]) {
 fn exp() {
     let mut random = Random::new(11);
     let drawn = (0..SAMPLES).map(|_| exp_input(&mut random, W));
-    let edges = exp_refusals().into_iter().chain(exp_scales()).chain(exp_eighths());
-    let edges = edges.map(|(input, _)| input);
-    let reduced_to_nought = far_exp_records().into_iter().map(|(input, _)| input);
-    for i in drawn.chain(edges).chain(reduced_to_nought) {
+    for i in drawn.chain(exp_edges()) {
         let ours = outcome(|out| engines::exp_record(i.n, i.ex, i.ey, i.sx, i.sy, out));
         let theirs = outcome(|out| write_record(exponential::exp(i, W), out));
         assert_eq!(ours, theirs, "{i:?}");
         if let Some(c) = c::VERSION {
             let c = outcome(|out| (c.exp_record)(i.n, i.ex, i.ey, i.sx, i.sy, out));
+            assert_eq!(c, theirs, "{i:?}");
+        }
+    }
+}
+
+#[test]
+fn exp_by_the_register() {
+    let mut random = Random::new(17);
+    let drawn = (0..SAMPLES).map(|_| exp_input(&mut random, W));
+    for i in drawn.chain(exp_edges()) {
+        let ours = outcome(|out| engines::exp_register_record(i.n, i.ex, i.ey, i.sx, i.sy, out));
+        let theirs = outcome(|out| write_record(register::exp(i, W), out));
+        assert_eq!(ours, theirs, "{i:?}");
+        if let Some(c) = c::VERSION {
+            let c = outcome(|out| (c.exp_register_record)(i.n, i.ex, i.ey, i.sx, i.sy, out));
             assert_eq!(c, theirs, "{i:?}");
         }
     }
@@ -87,9 +99,14 @@ fn lent_buffers() {
         let exp = lent(&|out| write_record(exponential::exp(e, W), out));
         let log = lent(&|out| write_record(logarithm::log(l, W), out));
         assert_eq!(lent(&|out| engines::exp_record(e.n, e.ex, e.ey, e.sx, e.sy, out)), exp);
+        let register = lent(&|out| engines::exp_register_record(e.n, e.ex, e.ey, e.sx, e.sy, out));
+        assert_eq!(register, exp);
         assert_eq!(lent(&|out| engines::log_record(l.n, l.x, l.y, out)), log);
         if let Some(c) = c::VERSION {
             assert_eq!(lent(&|out| (c.exp_record)(e.n, e.ex, e.ey, e.sx, e.sy, out)), exp);
+            let register =
+                &|out: &mut [u8]| (c.exp_register_record)(e.n, e.ex, e.ey, e.sx, e.sy, out);
+            assert_eq!(lent(register), exp);
             assert_eq!(lent(&|out| (c.log_record)(l.n, l.x, l.y, out)), log);
         }
     }

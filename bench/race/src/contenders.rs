@@ -63,7 +63,7 @@ pub fn contenders<Input: Operation>() -> Vec<Contender<Input>> {
 }
 
 #[inline(always)]
-fn fill_records<Input: Copy>(inputs: &[Input], call: impl Fn(Input, &mut [u8]) -> i64) {
+pub fn fill_records<Input: Copy>(inputs: &[Input], call: impl Fn(Input, &mut [u8]) -> i64) {
     let mut out = [0; RECORD_BYTES];
     for &input in inputs {
         call(input, &mut out);

@@ -1,7 +1,7 @@
 //! The race: prints the tables of `bench/run` as markdown. `race quick` prints the same from a
-//! few rounds, without instructions; `race doubles` and `race merges` print one of them alone.
-//! `race calls COURSE PLACE COUNT` runs COUNT small batches of one contender and nothing else, for
-//! counting instructions.
+//! few rounds, without instructions; `race register`, `race doubles` and `race merges` print one of
+//! them alone. `race calls COURSE PLACE COUNT` runs COUNT small batches of one contender and nothing
+//! else, for counting instructions.
 
 mod callgrind;
 mod contenders;
@@ -9,6 +9,7 @@ mod doubles;
 mod effort;
 mod merges;
 mod operation;
+mod register;
 mod rounds;
 mod sheets;
 mod table;
@@ -38,9 +39,10 @@ fn main() {
         }
         [] => race_all(&FULL),
         ["quick"] => race_all(&QUICK),
+        ["register"] => register::race(&FULL),
         ["doubles"] => doubles::race(&FULL),
         ["merges"] => merges::race(&FULL),
-        _ => panic!("race [quick|doubles|merges], or race calls COURSE PLACE COUNT"),
+        _ => panic!("race [quick|register|doubles|merges], or race calls COURSE PLACE COUNT"),
     }
 }
 
@@ -61,6 +63,7 @@ fn race_all(effort: &Effort) {
     compare_versions::<Exp>(effort);
     race(&EXP, effort);
     race(&FAR_EXP, effort);
+    register::race(effort);
     compare_versions::<Log>(effort);
     race(&LOG, effort);
     doubles::race(effort);

@@ -45,7 +45,7 @@ fn up_to_one(random: &mut Random) -> i64 {
     random.between(-WIDTH_48.one(), WIDTH_48.one()) as i64
 }
 
-fn plain_c() -> plain::c::Version {
+pub fn plain_c() -> plain::c::Version {
     plain::c::VERSION.expect("the plain version in C")
 }
 

@@ -35,13 +35,14 @@ use Rattle.iteration.proofs.Drift.{Near}
 use Rattle.exponential.specs.declared.reduction.Reduced.{Reduced}
 use Rattle.exponential.specs.Reduction.{factor, eighths, doublings, left-over, reduced, unreduced}
 use Rattle.exponential.specs.Answer.{rounding-share, ended, figures, expAnswer, up}
+use Rattle.exponential.specs.Code.{Accepted}
 use Rattle.certificate.specs.Exponential.{miss, allowed, CertifiedAt, CertifiedFor, Certified}
 use Rattle.exponential.proofs.Convergence.{Rectangle}
 use Rattle.exponential.proofs.Error.{drifted, left-near-one}
 use Rattle.exponential.proofs.Reduced.{left-rectangle}
 use Rattle.exponential.proofs.Far.{reduction-off, with-reduction}
 use Rattle.exponential.proofs.Given.{rectangle-says, reach-says, by-rectangle}
-use Rattle.exponential.proofs.Close.{Accepted, answer-keeps}
+use Rattle.exponential.proofs.Close.{answer-keeps}
 
 -- ---- as algebra: one is 256·H units, q = 2^N, v is one over 64·q, S the exponential of what is left, which is at most 91·v long
 module _ (H q v n P δ m : ℤ) (p s Q S S₀ : 𝔾) (H≥0 : pos 0 ⩽ H) (q≥1 : pos 1 ⩽ q) (v≥1 : pos 1 ⩽ v) (n<q : n +ℤ pos 1 ⩽ q)

@@ -1,5 +1,5 @@
-// The calls for C: EXP and LOG on plain numbers, 64 bytes into a lent buffer; LOG in doubles, and doubles read back; a line of a sheet; two
-// sheets merged, and which lines such a merge refuses; an entry of the step table.
+// The calls for C: EXP and LOG on plain numbers, 64 bytes into a lent buffer; EXP by a register; LOG in doubles, and doubles read back; a
+// line of a sheet; two sheets merged, and which lines such a merge refuses; an entry of the step table.
 // include/bkm.h is the contract in plain words.
 ghost use mathlib.Core.Path.{_≡_};
 ghost use mathlib.Core.List.{_++_};
@@ -45,6 +45,23 @@ pub extern "C" fn bkm_exp(n: i64, ex: i64, ey: i64, sx: i64, sy: i64, out: &mut 
 {
     let answer = exponential::exp(n, Point { x: ex, y: ey }, Point { x: sx, y: sy });
     hand_over(answer, out)
+}
+
+// EXP by the register engine, to hold a register in hardware to: the same record.
+#[no_mangle]
+pub extern "C" fn bkm_exp_register(
+    n: i64,
+    ex: i64,
+    ey: i64,
+    sx: i64,
+    sy: i64,
+    out: &mut [u8],
+) -> i64
+    ensures handed { λ r. ⌜ r ≡ handed (now (out .entry)) (recordOf (expAnswer n ex ey sx sy)) ⌝ }
+    ensures bytes { λ r. ⌜ now (out .exit) ≡ written (now (out .entry)) (recordOf (expAnswer n ex ey sx sy)) ⌝ }
+{
+    let by_register = register::exp(n, Point { x: ex, y: ey }, Point { x: sx, y: sy });
+    hand_over(by_register, out)
 }
 
 #[no_mangle]

@@ -1,7 +1,7 @@
 -- What is proved of the answer: when each is given, convergence, that it is close and that what is left over is small, at the width 48 with
 -- no hypothesis left.
-use mathlib.Core.Path.{_≡_, sym, ap, subst}
-use mathlib.Core.Bool.{true, false, cond}
+use mathlib.Core.Path.{_≡_, refl, sym, ap, subst}
+use mathlib.Core.Bool.{Bool, true, false, cond}
 use mathlib.Core.List.{[], _∷_}
 use Prim.Native.Nat.{ℕ, _+_, _-_, _^_, _≤_}
 use native.Mathlib.Omega.{arith}
@@ -25,8 +25,8 @@ use Rattle.answer.specs.declared.Refusal.{Refusal}
 use Rattle.answer.specs.declared.Refusal.the-variants.{Steps, Exponent, Part}
 use Rattle.answer.specs.declared.Answer.{Answer}
 use Rattle.answer.specs.declared.Answer.the-variants.{Answered, Refused}
+use Rattle.answer.specs.Refusal.{unless}
 use Rattle.answer.specs.Remainder.{PartsBelow, RemainderBelow}
-use Rattle.answer.proofs.Tests.{unless-keeps}
 use Rattle.answer.proofs.Remainder.{part-below}
 use Rattle.table_numbers.specs.Promise.{StepTable, Constants}
 use Rattle.table_numbers.specs.Numbers48.{constants48}
@@ -38,7 +38,8 @@ use Rattle.iteration.specs.declared.Mode.the-variants.{Exp}
 use Rattle.iteration.specs.Run.{state, run}
 use Rattle.exponential.specs.declared.reduction.Reduced.{Reduced}
 use Rattle.exponential.specs.Reduction.{inRectangle, inReach, reduced, unreduced, reduction}
-use Rattle.exponential.specs.Answer.{ended, figuresFrom, figures, answer, errorBound, expAnswer, up, miss, allowed, CloseAt, CloseFor, Close}
+use Rattle.exponential.specs.Answer.{unless-refused, ended, figuresFrom, figures, answer, errorBound, expAnswer, up, miss, allowed, CloseAt, CloseFor, Close}
+use Rattle.exponential.specs.Code.{Accepted}
 use Rattle.exponential.proofs.Convergence.{Rectangle, Below, converges}
 use Rattle.exponential.proofs.Error.{exp-error}
 use Rattle.exponential.proofs.Given.{rectangle-says, reach-says, by-rectangle, given-rectangle}
@@ -46,38 +47,41 @@ use Rattle.exponential.proofs.Far.{far-error}
 use Rattle.exponential.proofs.Bound.{bound-enough}
 
 -- ---- when each answer is given
--- an input that meets no refusal
-pub record Accepted (F : ℕ) (n : ℤ) (e s : 𝔾) : Type 0 where
-  pub steps : inSteps F 1 n ≡ true
-  pub reach : inReach F e ≡ true
-  pub start : inParts F s ≡ true
+module _ (F : ℕ) (n : ℤ) (e s : 𝔾) where
+  pub refused-steps : inSteps F 1 n ≡ false → (a : Answer) → unless-refused F n e s a ≡ Refused Steps
+  refused-steps x a = rw x
+
+  pub refused-exponent : inSteps F 1 n ≡ true → inReach F e ≡ false → (a : Answer) → unless-refused F n e s a ≡ Refused Exponent
+  refused-exponent x y a = rw (x, y)
+
+  pub refused-part : inSteps F 1 n ≡ true → inReach F e ≡ true → inParts F s ≡ false → (a : Answer) → unless-refused F n e s a ≡ Refused Part
+  refused-part x y z a = rw (x, y, z)
+
+  pub not-refused : Accepted F n e s → (a : Answer) → unless-refused F n e s a ≡ a
+  not-refused p a = rw (p .steps, p .reach, p .start)
+
+  -- what holds of every refusal, and of an answer where none is met, holds of the answer unless it is refused
+  pub tests-keep : (P : Answer → Type 0) (a : Answer) → ((r : Refusal) → ((b : Answer) → unless-refused F n e s b ≡ Refused r) → P (Refused r)) →
+      (Accepted F n e s → P a) → P (unless-refused F n e s a)
+  tests-keep P a refused given = by (inSteps F 1 n) (inReach F e) (inParts F s) refl refl refl
+    where
+      by : (x y z : Bool) → inSteps F 1 n ≡ x → inReach F e ≡ y → inParts F s ≡ z →
+          P (unless x Steps (unless y Exponent (unless z Part a)))
+      by false y z p q r = refused Steps (refused-steps p)
+      by true false z p q r = refused Exponent (refused-exponent p q)
+      by true true false p q r = refused Part (refused-part p q r)
+      by true true true p q r = given (record { steps = p; reach = q; start = r })
 
 module _ (F : ℕ) (t : StepTable) (c : Constants) (n : ℤ) (e s : 𝔾) where
-  pub refused-steps : inSteps F 1 n ≡ false → answer F t c n e s ≡ Refused Steps
-  unfolding answer
-  refused-steps a = rw a
-
-  pub refused-exponent : inSteps F 1 n ≡ true → inReach F e ≡ false → answer F t c n e s ≡ Refused Exponent
-  unfolding answer
-  refused-exponent a b = rw (a, b)
-
-  pub refused-part : inSteps F 1 n ≡ true → inReach F e ≡ true → inParts F s ≡ false → answer F t c n e s ≡ Refused Part
-  unfolding answer
-  refused-part a b d = rw (a, b, d)
-
   pub answered : Accepted F n e s → answer F t c n e s ≡ Answered (figures F t c (natAbs n) e s)
   unfolding answer
-  answered a = rw (a .steps, a .reach, a .start)
+  answered p = not-refused F n e s p (Answered (figures F t c (natAbs n) e s))
 
   -- what holds of every refusal, and of the figures where none is met, holds of the answer
   pub answer-keeps : (P : Answer → Type 0) → ((r : Refusal) → P (Refused r)) →
       (Accepted F n e s → P (Answered (figures F t c (natAbs n) e s))) → P (answer F t c n e s)
   unfolding answer
-  answer-keeps P refused given =
-      unless-keeps P (inSteps F 1 n) Steps _ (refused Steps)
-      (λ a. unless-keeps P (inReach F e) Exponent _ (refused Exponent)
-      (λ b. unless-keeps P (inParts F s) Part _ (refused Part)
-      (λ d. given (record { steps = a; reach = b; start = d }))))
+  answer-keeps P refused given = tests-keep F n e s P (Answered (figures F t c (natAbs n) e s)) (λ r _. refused r) given
 
   -- "Inside the old rectangle each answer remains the same", whatever the constants are: the steps of the exponent itself, on the start
   -- itself, with its error bound, and k is 0; what is left over is of the exponent itself

@@ -1,9 +1,9 @@
--- For the code, over a width F up to 48: every state of the run fits, and so does the error bound.
+-- For the code, over a width F up to 48: every state of the run fits, and so do the error bound and what an accepted input is reduced to.
 use mathlib.Core.Path.{_≡_, _∙_, ap}
 use mathlib.Core.List.{[], _∷_}
 use Prim.Native.Nat.{ℕ, _+_, _-_, _^_, _≤_}
 use native.Mathlib.Omega.{arith}
-use lib.IntN.{ℤ, pos, negsuc, _+ℤ_, _-ℤ_, _*ℤ_, +ℤ-comm}
+use lib.IntN.{ℤ, pos, negsuc, natAbs, _+ℤ_, _-ℤ_, _*ℤ_, +ℤ-comm}
 use lib.Signed.{shrZ}
 use mir.Syntax.{w64}
 use mir.Val.{SFits}
@@ -18,13 +18,19 @@ use Rattle.algebra.proofs.Larger.{larger-parts, larger-le}
 use Rattle.algebra.proofs.Parts.{parts-weaken, parts-cancel, size-add, size-neg, size-sign}
 use Rattle.word.proofs.Fits.{sfits-size}
 use Rattle.word.proofs.Shift.{CeilingFits, ceiling-fits}
-use Rattle.table_numbers.specs.Promise.{StepTable}
-use Rattle.table_numbers.proofs.Promises.{StepPromise}
+use Rattle.point.specs.Point.{gauss}
+use Rattle.point.proofs.InLimits.{steps-say}
+use Rattle.table_numbers.specs.Promise.{StepTable, Constants}
+use Rattle.table_numbers.proofs.Promises.{StepPromise, ConstantsPromise}
 use Rattle.iteration.specs.declared.Mode.the-variants.{Exp}
 use Rattle.iteration.specs.Run.{state, Fits}
 use Rattle.iteration.proofs.Drift.{exact-start, exact-run, exact-size}
-use Rattle.exponential.specs.Answer.{rounding-share, errorBound}
+use Rattle.exponential.specs.declared.reduction.Reduced.{Reduced}
+use Rattle.exponential.specs.Reduction.{reduction}
+use Rattle.exponential.specs.Answer.{rounding-share, errorBound, begun}
+use Rattle.exponential.specs.Code.{Accepted}
 use Rattle.exponential.proofs.Convergence.{Rectangle, below-parts, converges}
+use Rattle.exponential.proofs.Given.{given-rectangle, given-start, given-exponent}
 
 -- ---- the run: a start of parts up to 2^59 grows to 1089/280 of it, and the rounding; the exponent stays below one
 module _ (F : ℕ) (wide : 16 ≤ F) (narrow : F ≤ 48) (t : StepTable) (promise : StepPromise F (F - 8) t) where
@@ -77,3 +83,29 @@ pub bound-is : (n : ℕ) (s : 𝔾) → BoundFits n (larger s) → rounding-shar
 unfolding errorBound
 bound-is n s f = ap (λ u. rounding-share *ℤ pos n +ℤ u) (f .up .made)
     ∙ +ℤ-comm (rounding-share *ℤ pos n) (ceiling (pos 8 *ℤ larger s) (2 ^ n))
+
+-- ---- what an accepted input is reduced to
+pub record ReducedFits (F : ℕ) (t : StepTable) (n : ℕ) (r : Reduced) : Type 0 where
+  pub few : n ≤ F - 8
+  pub start : Parts (gauss (r .start)) (two (F + 11))
+  pub doublings : SFits w64 (r .«binary_exponent»)
+  pub steps : Fits F t Exp 0 n (begun r)
+
+pub reduced-fits : (F : ℕ) (wide : 16 ≤ F) (narrow : F ≤ 48) (t : StepTable) → StepPromise F (F - 8) t → (c : Constants) → ConstantsPromise F c →
+    {n : ℤ} {e s : 𝔾} → Accepted F n e s → ReducedFits F t (natAbs n) (reduction F c e s)
+reduced-fits F wide narrow t table c promise {n} {e} {s} p = record {
+  few = few;
+  start = start;
+  doublings = sfits-size (given-exponent F (omega arith) c promise e s (p .reach)) tt;
+  steps = run-fits F wide narrow t table (natAbs n) (gauss (r .exponent)) (gauss (r .start)) few (given-rectangle F (omega arith) c promise e s)
+      start;
+}
+  where
+    r : Reduced
+    r = reduction F c e s
+
+    few : natAbs n ≤ F - 8
+    few = steps-say F 1 n (p .steps) .at-most
+
+    start : Parts (gauss (r .start)) (two (F + 11))
+    start = given-start F (omega arith) c promise e s (p .start)

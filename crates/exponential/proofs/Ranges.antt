@@ -32,9 +32,10 @@ use Rattle.iteration.proofs.Drift.{exact-start, exact-run, exact-size}
 use Rattle.exponential.specs.declared.reduction.Reduced.{Reduced}
 use Rattle.exponential.specs.Reduction.{reduction}
 use Rattle.exponential.specs.Answer.{rounding-share, figures, answer, errorBound, expAnswer}
+use Rattle.exponential.specs.Code.{Accepted}
 use Rattle.exponential.proofs.Given.{given-start, given-exponent}
 use Rattle.exponential.proofs.Bound.{bound-enough, bound-least}
-use Rattle.exponential.proofs.Close.{Accepted, answer-keeps, left-below}
+use Rattle.exponential.proofs.Close.{answer-keeps, left-below}
 
 -- at F = 48: N from 1 to 40, each part of the value at most 2^61 in size, k from −12 to 12, an error bound from 0 to 2^61 + 80, and each part
 -- of the remainder at most 2^47 in size

@@ -28,9 +28,10 @@ use Rattle.iteration.proofs.Runs.{run-keeps}
 use Rattle.exponential.specs.declared.reduction.Reduced.{Reduced}
 use Rattle.exponential.specs.Reduction.{factor, eighths, reduction}
 use Rattle.exponential.specs.Answer.{rounding-share, errorBound, ended, figures, expAnswer}
+use Rattle.exponential.specs.Code.{Accepted}
 use Rattle.exponential.proofs.Bound.{bound-enough, bound-least}
 use Rattle.exponential.proofs.Given.{by-rectangle}
-use Rattle.exponential.proofs.Close.{Accepted, answered}
+use Rattle.exponential.proofs.Close.{answered}
 
 -- what is answered: zero times 2^k, the rounding's share alone, and what is left of the exponent
 abbrev pub zero-figures : ℕ → ℤ → Point → Figures

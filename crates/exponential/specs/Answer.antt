@@ -36,34 +36,52 @@ unfoldable pub errorBound : ℕ → 𝔾 → ℤ
 errorBound n s = ceiling (pos 8 *ℤ larger s) (2 ^ n) +ℤ rounding-share *ℤ pos n
 
 -- ---- the answer for every input
-module _ (F : ℕ) (t : StepTable) where
-  -- "For n = 1 to N: .. The start takes the step; the exponent loses the table entry": the state of start and exponent after n steps
-  abbrev pub ended : ℕ → Reduced → State
-  ended n r = run F t Exp 0 n (state (gauss (r .start)) (gauss (r .exponent)))
+-- "first 1, N outside 1 to 40; then 2, exponent outside the rectangle", which is now the reach: "Beyond 8 the answer is still 2"; "then 3,
+-- a start part over 2^58 in size", of the given start
+abbrev pub unless-refused : ℕ → ℤ → 𝔾 → 𝔾 → Answer → Answer
+unless-refused F n e s a = unless (inSteps F 1 n) Steps (unless (inReach F e) Exponent (unless (inParts F s) Part a))
 
-  -- "The answer is the last start"; "The answer is times 2^k", and q is 0; 02, E7: the remainder is "the exponent after the last step"
+-- the state of start and exponent that the steps are given
+abbrev pub begun : Reduced → State
+begun r = state (gauss (r .start)) (gauss (r .exponent))
+
+-- the figures of n steps that end in the state x: "The answer is the last start"; "The answer is times 2^k", and q is 0; 02, E7: the
+-- remainder is "the exponent after the last step"
+abbrev pub figuresAt : ℕ → Reduced → State → Figures
+figuresAt n r x = record {
+  value = x .point;
+  «binary_exponent» = r .«binary_exponent»;
+  quadrant = pos 0;
+  «error_bound» = errorBound n (gauss (r .start));
+  remainder = x .sum;
+}
+
+module _ (F : ℕ) (t : StepTable) where
+  -- "For n = 1 to N: .. The start takes the step; the exponent loses the table entry": the state after n steps
+  abbrev pub ended : ℕ → Reduced → State
+  ended n r = run F t Exp 0 n (begun r)
+
   abbrev pub figuresFrom : ℕ → Reduced → Figures
-  figuresFrom n r = record {
-    value = ended n r .point;
-    «binary_exponent» = r .«binary_exponent»;
-    quadrant = pos 0;
-    «error_bound» = errorBound n (gauss (r .start));
-    remainder = ended n r .sum;
-  }
+  figuresFrom n r = figuresAt n r (ended n r)
 
 module _ (F : ℕ) (t : StepTable) (c : Constants) where
   abbrev pub figures : ℕ → 𝔾 → 𝔾 → Figures
   figures n e s = figuresFrom F t n (reduction F c e s)
 
-  -- "first 1, N outside 1 to 40; then 2, exponent outside the rectangle", which is now the reach: "Beyond 8 the answer is still 2"; "then 3,
-  -- a start part over 2^58 in size", of the given start
   unfoldable pub answer : ℤ → 𝔾 → 𝔾 → Answer
-  answer n e s = unless (inSteps F 1 n) Steps (unless (inReach F e) Exponent
-      (unless (inParts F s) Part (Answered (figures (natAbs n) e s))))
+  answer n e s = unless-refused F n e s (Answered (figures (natAbs n) e s))
 
 -- of exp (n, (ex, ey), (sx, sy))
 unfoldable pub expAnswer : ℤ → ℤ → ℤ → ℤ → ℤ → Answer
 expAnswer n ex ey sx sy = answer 48 stepTable constants48 n (gi ex ey) (gi sx sy)
+
+-- ---- before the first step, for whichever engine takes the steps (02, E9): "outside, the reduction comes before both"
+unfoldable pub beginning : ℕ → Constants → ℤ → 𝔾 → 𝔾 → Answer
+beginning F c n e s = let r = reduction F c e s in unless-refused F n e s (Answered (figuresAt (natAbs n) r (begun r)))
+
+-- of begin (n, (ex, ey), (sx, sy))
+unfoldable pub expBeginning : ℤ → ℤ → ℤ → ℤ → ℤ → Answer
+expBeginning n ex ey sx sy = beginning 48 constants48 n (gi ex ey) (gi sx sy)
 
 -- ---- what demand 3 compares, at T terms: the exponential is S T/D T, and both sides are multiplied by the divisors 2^N, 2^down and D T
 -- 2^k is 2^up/2^down

@@ -5,7 +5,8 @@ ghost use Rattle.algebra.specs.Size.{Size, Parts, abs, larger};
 ghost use Rattle.algebra.specs.Gauss.{two};
 ghost use Rattle.point.specs.Point.{gauss};
 ghost use Rattle.answer.specs.Remainder.{RemainderBelow};
-ghost use Rattle.exponential.specs.Answer.{errorBound, expAnswer, Close};
+ghost use Rattle.exponential.specs.Answer.{errorBound, expAnswer, expBeginning, Close};
+ghost use Rattle.exponential.specs.Code.{Right};
 use answer::Answer;
 use answer::Figures;
 use answer::Refusal;
@@ -47,6 +48,28 @@ fn error_bound(n: usize, s: Point) -> i64
     share - down
 }
 
+// What the tests of an input say.
+enum Verdict {
+    Passed,
+    Failed(Refusal),
+}
+
+// The tests, in the order of their refusals.
+fn test(n: i64, exponent: Point, start: Point) -> Verdict
+    ensures { λ r. ⌜ Right 48 n (gauss exponent) (gauss start) r ⌝ }
+{
+    if !point::is_between(1, 40, n) {
+        return Verdict::Failed(Refusal::Steps);
+    }
+    if !reduction::is_in_reach(exponent) {
+        return Verdict::Failed(Refusal::Exponent);
+    }
+    if !start.is_in_parts() {
+        return Verdict::Failed(Refusal::Part);
+    }
+    Verdict::Passed
+}
+
 // The start times the exponential of the exponent, by n steps: value times 2^binary_exponent. What the steps leave of the exponent that they
 // are given is the remainder.
 pub fn exp(n: i64, exponent: Point, start: Point) -> Answer
@@ -54,37 +77,59 @@ pub fn exp(n: i64, exponent: Point, start: Point) -> Answer
     ensures close { λ r. ⌜ Close n (exponent .x) (exponent .y) (start .x) (start .y) r ⌝ }
     ensures remainder { λ r. ⌜ RemainderBelow 48 n r ⌝ }
 {
-    if !point::is_between(1, 40, n) {
-        return Answer::Refused(Refusal::Steps);
+    let verdict = test(n, exponent, start);
+    match verdict {
+        Verdict::Passed => {
+            let steps = n as usize;
+            let given = reduction::reduce(exponent, start);
+            let s = given.start;
+            let e = given.exponent;
+            let end = iteration::run(Mode::Exp, 0, steps, State { point: s, sum: e });
+            let last = end.point;
+            let left = end.sum;
+            // part by part, so that nothing is copied in between
+            let x = last.x;
+            let y = last.y;
+            let left_x = left.x;
+            let left_y = left.y;
+            let binary_exponent = given.binary_exponent;
+            let error_bound = error_bound(steps, s);
+            Answer::Answered(Figures {
+                value: Point { x, y },
+                binary_exponent,
+                quadrant: 0,
+                error_bound,
+                remainder: Point {
+                    x: left_x,
+                    y: left_y,
+                },
+            })
+        }
+        Verdict::Failed(r) => Answer::Refused(r),
     }
-    if !reduction::is_in_reach(exponent) {
-        return Answer::Refused(Refusal::Exponent);
+}
+
+// EXP before its first step, for whichever engine takes the steps: the start and the exponent that they are given stand where the value and
+// the remainder will.
+pub fn begin(n: i64, exponent: Point, start: Point) -> Answer
+    ensures { λ r. ⌜ r ≡ expBeginning n (exponent .x) (exponent .y) (start .x) (start .y) ⌝ }
+{
+    let verdict = test(n, exponent, start);
+    match verdict {
+        Verdict::Passed => {
+            let given = reduction::reduce(exponent, start);
+            let value = given.start;
+            let remainder = given.exponent;
+            let doublings = given.binary_exponent;
+            let bound = error_bound(n as usize, value);
+            Answer::Answered(Figures {
+                value,
+                binary_exponent: doublings,
+                quadrant: 0,
+                error_bound: bound,
+                remainder,
+            })
+        }
+        Verdict::Failed(r) => Answer::Refused(r),
     }
-    if !start.is_in_parts() {
-        return Answer::Refused(Refusal::Part);
-    }
-    let steps = n as usize;
-    let given = reduction::reduce(exponent, start);
-    let s = given.start;
-    let e = given.exponent;
-    let end = iteration::run(Mode::Exp, 0, steps, State { point: s, sum: e });
-    let last = end.point;
-    let left = end.sum;
-    // part by part, so that nothing is copied in between
-    let x = last.x;
-    let y = last.y;
-    let left_x = left.x;
-    let left_y = left.y;
-    let binary_exponent = given.binary_exponent;
-    let error_bound = error_bound(steps, s);
-    Answer::Answered(Figures {
-        value: Point { x, y },
-        binary_exponent,
-        quadrant: 0,
-        error_bound,
-        remainder: Point {
-            x: left_x,
-            y: left_y,
-        },
-    })
 }

@@ -1,18 +1,20 @@
 -- What the digits of a mode say: of the number that each part was read off, and how LOG's brings the point nearer to one.
 use mathlib.Core.Bool.{Bool, true, false, not, cond}
-use mathlib.Core.List.{[], _∷_}
+use mathlib.Core.List.{List, [], _∷_}
 use mathlib.Core.Path.{_≡_, sym, ap, ap₂}
-use Prim.Native.Nat.{ℕ}
+use Prim.Native.Nat.{ℕ, _<_}
 use lib.Dec.{T}
 use lib.IntN.{ℤ, pos, negsuc, negℤ, _+ℤ_, _-ℤ_, _*ℤ_}
-use lib.Signed.{ltZ, leZ, ltZ-yes, ltZ-no}
+use lib.Signed.{shrZ, ltZ, leZ, ltZ-yes, ltZ-no}
 use Rattle.algebra.specs.Gauss.{𝔾, ιᵍ, negᵍ, _+ᵍ_, _-ᵍ_, _*ᵍ_, two, twoᵍ}
 use Rattle.algebra.specs.Order.{_⩽_, _⋖_}
 use Rattle.algebra.specs.Size.{Size, Parts}
 use Rattle.algebra.proofs.Reify.{reify}
-use Rattle.algebra.proofs.Order.{tested}
-use Rattle.algebra.proofs.Linear.{lin, lin<, _&_, none}
-use Rattle.word.proofs.Compare.{leZ-true, le-leZ, lt-leZ}
+use Rattle.algebra.proofs.Order.{tested, tested<, nonneg-mul, nonneg-pos, sub-nonneg}
+use Rattle.algebra.proofs.Inequality.{below-next, le-cancel}
+use Rattle.algebra.proofs.Linear.{lin, lin<, _&_, _&<_, none}
+use Rattle.algebra.proofs.Floor.{floor-lo, floor-hi}
+use Rattle.word.proofs.Compare.{leZ-true, le-leZ, lt-leZ, lt-ltZ, le-ltZ}
 use Rattle.point.specs.Digit.{Trit, t-, t0, t+, IsDigit}
 use Rattle.point.specs.Point.{gauss, point}
 use Rattle.iteration.specs.declared.State.{State}
@@ -38,17 +40,44 @@ cut-says lo hi x = go (ltZ x lo) (ltZ x hi) (λ p. ltZ-yes p) (λ p. ltZ-no p) (
     go false true f g k l = nought (g tt) (k tt)
     go false false f g k l = plus (l tt)
 
-chosen-trit : (b c : Bool) → Trit (chosen b c)
-chosen-trit true c = t-
-chosen-trit false true = t0
-chosen-trit false false = t+
+pub cut-trit : (lo hi x : ℤ) → Trit (cut lo hi x)
+cut-trit lo hi x = go (ltZ x lo) (ltZ x hi)
+  where
+    go : (b c : Bool) → Trit (chosen b c)
+    go true c = t-
+    go false true = t0
+    go false false = t+
 
 pub exp-digit : (F n : ℕ) (e : 𝔾) → IsDigit (exp-select F n e)
 unfolding exp-select
-exp-digit F n e = record {
-  x = chosen-trit (ltZ (e .re) (low-x F n)) (ltZ (e .re) (high-x F n));
-  y = chosen-trit (ltZ (e .im) (low-y F n)) (ltZ (e .im) (high-y F n));
-}
+exp-digit F n e = record { x = cut-trit (low-x F n) (high-x F n) (e .re); y = cut-trit (low-y F n) (high-y F n) (e .im) }
+
+-- ---- a cut of a scaled number, and of a floored one
+less-scaled : (c : ℤ) → pos 1 ⩽ c → (x a : ℤ) → ltZ (c *ℤ x) (c *ℤ a) ≡ ltZ x a
+less-scaled c h x a = tested< (λ b. b ≡ ltZ x a) (c *ℤ x) (c *ℤ a)
+    (λ l. sym (lt-ltZ {x = x} {y = a} (lin< (x ∷ a ∷ []) (below-next {a = x} {b = a -ℤ pos 1} c h
+    (lin (c ∷ x ∷ a ∷ []) (l &< none) (search reify depth 20) tt) & none) (search reify depth 20) tt)))
+    (λ l. sym (le-ltZ {x = x} {y = a} (le-cancel c h l)))
+
+pub cut-scaled : (c : ℤ) → pos 1 ⩽ c → (lo hi x : ℤ) → cut (c *ℤ lo) (c *ℤ hi) (c *ℤ x) ≡ cut lo hi x
+cut-scaled c h lo hi x = ap₂ chosen (less-scaled c h x lo) (less-scaled c h x hi)
+
+-- floor(z/m) < a exactly where z < m·a
+less-floor : (m : ℕ) → 0 < m → (z a : ℤ) → ltZ (shrZ z m) a ≡ ltZ z (pos m *ℤ a)
+less-floor m h z a = tested< (λ b. b ≡ ltZ z (pos m *ℤ a)) (shrZ z m) a
+    (λ l. sym (lt-ltZ {x = z} {y = pos m *ℤ a} (lin< ρ
+    (floor-hi m h z & nonneg-mul (nonneg-pos m) (next l) & none) (search reify depth 20) tt)))
+    (λ l. sym (le-ltZ {x = z} {y = pos m *ℤ a} (lin ρ
+    (floor-lo m h z & nonneg-mul (nonneg-pos m) (sub-nonneg l) & none) (search reify depth 20) tt)))
+  where
+    ρ : List ℤ
+    ρ = pos m ∷ z ∷ a ∷ shrZ z m ∷ []
+
+    next : shrZ z m ⋖ a → pos 0 ⩽ a -ℤ pos 1 -ℤ shrZ z m
+    next l = lin (a ∷ shrZ z m ∷ []) (l &< none) (search reify depth 20) tt
+
+pub cut-floor : (m : ℕ) → 0 < m → (lo hi z : ℤ) → cut lo hi (shrZ z m) ≡ cut (pos m *ℤ lo) (pos m *ℤ hi) z
+cut-floor m h lo hi z = ap₂ chosen (less-floor m h z lo) (less-floor m h z hi)
 
 -- ---- a part of LOG's digit by its two tests, in either order
 pub back-low : (t u : ℤ) → leZ u (negℤ t) ≡ true → cut-back t u ≡ pos 1

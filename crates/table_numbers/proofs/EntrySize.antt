@@ -56,16 +56,19 @@ windows (suc (suc zero)) = (tt, tt)
 windows (suc (suc (suc zero))) = (tt, tt)
 windows (suc (suc (suc (suc n)))) = (tt, tt)
 
-pub entry-short : (F n : ℕ) → suc n + 8 ≤ F → {d z : 𝔾} → IsDigit d → StepEntry F (suc n) d z → Within z (pos 9 *ℤ two (F - 2 - suc n))
-entry-short F n fits {z} t e = record {
-  sign = nonneg-pos (9 * 2 ^ (F - 2 - suc n));
-  size = lin (z .re ∷ z .im ∷ u ∷ []) (size-sq (p .0) & size-sq (p .1) & nonneg-sq u & none) (search reify depth 20) tt;
-}
+-- 2048 times each part, in quarters of h
+pub entry-size : (F n : ℕ) → suc n + 8 ≤ F → {d z : 𝔾} → IsDigit d → StepEntry F (suc n) d z →
+    Size (pos 2048 *ℤ z .re) (pos 12932 *ℤ two (F - 2 - suc n)) × Size (pos 2048 *ℤ z .im) (pos 12932 *ℤ two (F - 2 - suc n))
+entry-size F n fits = entry-parts F (suc n) (pos 3217) (pos 12932 *ℤ u) (windows n)
+    (lin (two (F - suc n) ∷ u ∷ []) (two-part 2 F (suc n) (omega arith) &≡ two-mono 8 (F - suc n) (omega arith) & none)
+    (search reify depth 20) tt)
   where
     u : ℤ
     u = two (F - 2 - suc n)
 
-    p : Size (pos 2048 *ℤ z .re) (pos 12932 *ℤ u) × Size (pos 2048 *ℤ z .im) (pos 12932 *ℤ u)
-    p = entry-parts F (suc n) (pos 3217) (pos 12932 *ℤ u) (windows n)
-        (lin (two (F - suc n) ∷ u ∷ []) (two-part 2 F (suc n) (omega arith) &≡ two-mono 8 (F - suc n) (omega arith) & none)
-        (search reify depth 20) tt) t e
+pub entry-short : (F n : ℕ) → suc n + 8 ≤ F → {d z : 𝔾} → IsDigit d → StepEntry F (suc n) d z → Within z (pos 9 *ℤ two (F - 2 - suc n))
+entry-short F n fits {z} t e = let p = entry-size F n fits t e in record {
+  sign = nonneg-pos (9 * 2 ^ (F - 2 - suc n));
+  size = lin (z .re ∷ z .im ∷ two (F - 2 - suc n) ∷ []) (size-sq (p .0) & size-sq (p .1) & nonneg-sq (two (F - 2 - suc n)) & none)
+      (search reify depth 20) tt;
+}

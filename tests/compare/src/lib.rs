@@ -8,6 +8,15 @@ use reference::{exponential, logarithm};
 // A lent buffer is passed as its address and its length.
 extern "C" {
     fn bkm_exp(n: i64, ex: i64, ey: i64, sx: i64, sy: i64, out: *mut u8, len: usize) -> i64;
+    fn bkm_exp_register(
+        n: i64,
+        ex: i64,
+        ey: i64,
+        sx: i64,
+        sy: i64,
+        out: *mut u8,
+        len: usize,
+    ) -> i64;
     fn bkm_log(n: i64, x: i64, y: i64, out: *mut u8, len: usize) -> i64;
     fn bkm_line(line: *const u8, line_len: usize, out: *mut u8, len: usize) -> usize;
     fn bkm_merge(
@@ -59,6 +68,13 @@ pub fn exp(input: exponential::Input, out: &mut [u8]) -> i64 {
     let exponential::Input { n, ex, ey, sx, sy } = input;
     // SAFETY: the pointer and the length are those of one exclusive slice.
     unsafe { bkm_exp(n, ex, ey, sx, sy, out.as_mut_ptr(), out.len()) }
+}
+
+#[inline]
+pub fn exp_register(input: exponential::Input, out: &mut [u8]) -> i64 {
+    let exponential::Input { n, ex, ey, sx, sy } = input;
+    // SAFETY: as above.
+    unsafe { bkm_exp_register(n, ex, ey, sx, sy, out.as_mut_ptr(), out.len()) }
 }
 
 #[inline]
@@ -154,6 +170,11 @@ fn figures(call: impl FnOnce(&mut [u8]) -> i64) -> Option<Figures> {
 #[inline]
 pub fn exp_figures(input: exponential::Input) -> Option<Figures> {
     figures(|out| exp(input, out))
+}
+
+#[inline]
+pub fn exp_register_figures(input: exponential::Input) -> Option<Figures> {
+    figures(|out| exp_register(input, out))
 }
 
 #[inline]

@@ -232,6 +232,16 @@ pub fn exp_remainders() -> Vec<(Exp, [i64; 2])> {
     .to_vec()
 }
 
+/// The inputs of all edges of EXP.
+pub fn exp_edges() -> Vec<Exp> {
+    let mut inputs = exp_of_zero();
+    let numbered = [exp_refusals(), exp_scales(), exp_eighths()];
+    inputs.extend(numbered.into_iter().flatten().map(|(input, _)| input));
+    inputs.extend(exp_records().into_iter().chain(far_exp_records()).map(|(input, _)| input));
+    inputs.extend(exp_remainders().into_iter().map(|(input, _)| input));
+    inputs
+}
+
 /// Remainders of LOG of one, by hand: (120 - 7i)/128 after the digits 1, -1+i and 0.
 pub fn log_one_remainders() -> Vec<(Log, [i64; 2])> {
     [(3, [56, -63], 10), (4, [-121, 135], 14), (5, [-121, 135], 14)]

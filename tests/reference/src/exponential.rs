@@ -59,6 +59,23 @@ pub struct Reduction {
     pub binary_exponent: i64,
 }
 
+impl Reduction {
+    /// The figures of N steps from here that end with this start and leave this of the exponent;
+    /// M is the larger part of the start that they run on.
+    pub fn figures(self, n: u32, end: Point, remainder: Point) -> Figures {
+        let bound = ceiling_quotient(8 * self.start.larger_part(), n) + 2 * i128::from(n);
+        Figures {
+            x: word(end.x),
+            y: word(end.y),
+            binary_exponent: self.binary_exponent,
+            quadrant: 0,
+            error_bound: word(bound),
+            remainder_x: word(remainder.x),
+            remainder_y: word(remainder.y),
+        }
+    }
+}
+
 /// What the start is multiplied by, by p modulo 8.
 pub const FACTORS: [(i128, i128); 8] =
     [(1, 0), (1, 1), (0, 1), (-1, 1), (-1, 0), (-1, -1), (0, -1), (1, -1)];
@@ -158,7 +175,7 @@ impl Iterator for Steps {
 }
 
 /// 01, Turned away, with the limit of 02, E5: the first condition that holds.
-fn refusal(input: Input, width: Width) -> Option<Refusal> {
+pub fn refusal(input: Input, width: Width) -> Option<Refusal> {
     if !(1..=width.max_steps()).contains(&input.n) {
         Some(Refusal::Steps)
     } else if input.exponent().larger_part() > width.max_exponent() {
@@ -177,18 +194,9 @@ pub fn exp(input: Input, width: Width) -> Answer {
     Ok(figures(input.n as u32, input.reduction(width), width))
 }
 
-/// N steps from there; M is the larger part of the start that they run on.
+/// N steps from there.
 pub fn figures(n: u32, reduction: Reduction, width: Width) -> Figures {
-    let Reduction { exponent, start, binary_exponent } = reduction;
-    let run = steps(exponent, start, CUT, width);
+    let run = steps(reduction.exponent, reduction.start, CUT, width);
     let end = run.take(n as usize).last().expect("N is at least 1");
-    Figures {
-        x: word(end.start.x),
-        y: word(end.start.y),
-        binary_exponent,
-        quadrant: 0,
-        error_bound: word(ceiling_quotient(8 * start.larger_part(), n) + 2 * i128::from(n)),
-        remainder_x: word(end.exponent.x),
-        remainder_y: word(end.exponent.y),
-    }
+    reduction.figures(n, end.start, end.exponent)
 }

@@ -14,6 +14,7 @@ pub mod logarithm;
 pub mod merge;
 pub mod outline;
 pub mod point;
+pub mod register;
 pub mod samples;
 pub mod sheet;
 pub mod tables;

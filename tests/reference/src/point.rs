@@ -60,6 +60,11 @@ impl Point {
         self + point(quotient(product.x, n), quotient(product.y, n))
     }
 
+    /// Both parts times 2^bits.
+    pub fn shifted_up(self, bits: u32) -> Point {
+        self.times(point(1 << bits, 0))
+    }
+
     /// M of the error bounds: the larger part in size.
     pub fn larger_part(self) -> i128 {
         self.x.abs().max(self.y.abs())

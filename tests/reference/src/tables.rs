@@ -65,7 +65,7 @@ pub fn reciprocal(cell_x: i128, cell_y: i128) -> Point {
 }
 
 /// ln(z / 2^bits), each part as the nearest unit.
-fn logarithm(z: Point, bits: u32, width: Width) -> Point {
+pub fn logarithm(z: Point, bits: u32, width: Width) -> Point {
     let log = newton_logarithm(Complex::ratio(z.x, z.y, bits), (z.y as f64).atan2(z.x as f64));
     point(log.re.nearest(width.fraction_bits), log.im.nearest(width.fraction_bits))
 }

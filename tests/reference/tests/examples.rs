@@ -8,6 +8,7 @@ use reference::exponential::{exp, Input as Exp};
 use reference::figure::EXPONENT;
 use reference::logarithm::{log, Input as Log};
 use reference::merge::{merge, stopped_at};
+use reference::register;
 use reference::sheet::answer_sheet;
 use reference::width::WIDTH_48 as W;
 use std::fs;
@@ -119,6 +120,37 @@ fn multiplied_back() {
         wanted.push(format!("{n:2}{off:16.0} {bound:16} |{back:18.0} {:8.0}", allowed.ceil()));
     }
     assert_eq!(wanted, stored("examples/multiply_back.answer").lines().collect::<Vec<_>>());
+}
+
+/// The register, in bits and as a number, what is looked at, the digit and the scaled entry.
+#[test]
+fn traced_register() {
+    let number = |part: i128, bits: u32| {
+        format!("  {:013x} {:+.15}", part & ((1 << bits) - 1), part as f64 / ONE as f64)
+    };
+    let looked_at = |cut: i128, fraction: usize| {
+        let bits = format!("{:0places$b}", cut & ((4 << fraction) - 1), places = fraction + 2);
+        format!("{}.{}", &bits[..2], &bits[2..])
+    };
+    let heads = ["register", "looked at", "digit  scaled entry"];
+    let mut wanted = vec![format!(" n    {:<32}  {}  {}", heads[0], heads[1], heads[2])];
+    let mut end = EXPONENT;
+    for step in register::steps(EXPONENT, EXP.start(), W).take(10) {
+        for (name, part, cut, digit, entry) in [
+            ('x', step.before.x, looked_at(step.cut.x, 3), step.digit.x, step.entry.x),
+            ('y', step.before.y, looked_at(step.cut.y, 4), step.digit.y, step.entry.y),
+        ] {
+            let (register, entry) = (number(part, 50), number(entry, 51));
+            wanted.push(format!("{:2} {name}{register}  {cut:9}  {digit:5}{entry}", step.n));
+        }
+        end = step.register;
+    }
+    wanted.extend(
+        [('x', end.x), ('y', end.y)].map(|(name, part)| format!("11 {name}{}", number(part, 50))),
+    );
+    let left = register::remainder(end, 10);
+    wanted.push(format!("left over: {} and {} units", left.x, left.y));
+    assert_eq!(wanted, stored("examples/register_trace.answer").lines().collect::<Vec<_>>());
 }
 
 /// The points and the last two numbers of each, angle and length, which 17 digits tell to the bit.
