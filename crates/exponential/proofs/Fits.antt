@@ -1,5 +1,5 @@
 -- For the code, over a width F up to 48: every state of the run fits, and so do the error bound and what an accepted input is reduced to.
-use mathlib.Core.Path.{_≡_, _∙_, ap}
+use mathlib.Core.Path.{_≡_, sym, _∙_, ap, subst}
 use mathlib.Core.List.{[], _∷_}
 use Prim.Native.Nat.{ℕ, _+_, _-_, _^_, _≤_}
 use native.Mathlib.Omega.{arith}
@@ -21,7 +21,11 @@ use Rattle.word.proofs.Shift.{CeilingFits, ceiling-fits}
 use Rattle.point.specs.Point.{gauss}
 use Rattle.point.proofs.InLimits.{steps-say}
 use Rattle.table_numbers.specs.Promise.{StepTable, Constants}
+use Rattle.table_numbers.specs.Numbers48.{constants48}
+use Rattle.table_numbers.specs.Table.{stepTable}
 use Rattle.table_numbers.proofs.Promises.{StepPromise, ConstantsPromise}
+use Rattle.table_numbers.proofs.Promise48.{constants-promise}
+use Rattle.tables.proofs.Promises.{step-promise}
 use Rattle.iteration.specs.declared.Mode.the-variants.{Exp}
 use Rattle.iteration.specs.Run.{state, Fits}
 use Rattle.iteration.proofs.Drift.{exact-start, exact-run, exact-size}
@@ -109,3 +113,8 @@ reduced-fits F wide narrow t table c promise {n} {e} {s} p = record {
 
     start : Parts (gauss (r .start)) (two (F + 11))
     start = given-start F (omega arith) c promise e s (p .start)
+
+-- at the width 48, of what the code reduced
+pub fits-48 : {n : ℤ} {e s : 𝔾} {r : Reduced} → Accepted 48 n e s → r ≡ reduction 48 constants48 e s → ReducedFits 48 stepTable (natAbs n) r
+fits-48 {n} p given = subst (ReducedFits 48 stepTable (natAbs n)) (sym given)
+    (reduced-fits 48 (omega arith) (omega arith) stepTable step-promise constants48 constants-promise p)

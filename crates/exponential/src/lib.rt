@@ -78,35 +78,33 @@ pub fn exp(n: i64, exponent: Point, start: Point) -> Answer
     ensures remainder { λ r. ⌜ RemainderBelow 48 n r ⌝ }
 {
     let verdict = test(n, exponent, start);
-    match verdict {
-        Verdict::Passed => {
-            let steps = n as usize;
-            let given = reduction::reduce(exponent, start);
-            let s = given.start;
-            let e = given.exponent;
-            let end = iteration::run(Mode::Exp, 0, steps, State { point: s, sum: e });
-            let last = end.point;
-            let left = end.sum;
-            // part by part, so that nothing is copied in between
-            let x = last.x;
-            let y = last.y;
-            let left_x = left.x;
-            let left_y = left.y;
-            let binary_exponent = given.binary_exponent;
-            let error_bound = error_bound(steps, s);
-            Answer::Answered(Figures {
-                value: Point { x, y },
-                binary_exponent,
-                quadrant: 0,
-                error_bound,
-                remainder: Point {
-                    x: left_x,
-                    y: left_y,
-                },
-            })
-        }
-        Verdict::Failed(r) => Answer::Refused(r),
+    if let Verdict::Failed(r) = verdict {
+        return Answer::Refused(r);
     }
+    let steps = n as usize;
+    let given = reduction::reduce(exponent, start);
+    let s = given.start;
+    let e = given.exponent;
+    let end = iteration::run(Mode::Exp, 0, steps, State { point: s, sum: e });
+    let last = end.point;
+    let left = end.sum;
+    // part by part, so that nothing is copied in between
+    let x = last.x;
+    let y = last.y;
+    let left_x = left.x;
+    let left_y = left.y;
+    let binary_exponent = given.binary_exponent;
+    let error_bound = error_bound(steps, s);
+    Answer::Answered(Figures {
+        value: Point { x, y },
+        binary_exponent,
+        quadrant: 0,
+        error_bound,
+        remainder: Point {
+            x: left_x,
+            y: left_y,
+        },
+    })
 }
 
 // EXP before its first step, for whichever engine takes the steps: the start and the exponent that they are given stand where the value and
@@ -115,21 +113,19 @@ pub fn begin(n: i64, exponent: Point, start: Point) -> Answer
     ensures { λ r. ⌜ r ≡ expBeginning n (exponent .x) (exponent .y) (start .x) (start .y) ⌝ }
 {
     let verdict = test(n, exponent, start);
-    match verdict {
-        Verdict::Passed => {
-            let given = reduction::reduce(exponent, start);
-            let value = given.start;
-            let remainder = given.exponent;
-            let doublings = given.binary_exponent;
-            let bound = error_bound(n as usize, value);
-            Answer::Answered(Figures {
-                value,
-                binary_exponent: doublings,
-                quadrant: 0,
-                error_bound: bound,
-                remainder,
-            })
-        }
-        Verdict::Failed(r) => Answer::Refused(r),
+    if let Verdict::Failed(r) = verdict {
+        return Answer::Refused(r);
     }
+    let given = reduction::reduce(exponent, start);
+    let value = given.start;
+    let remainder = given.exponent;
+    let doublings = given.binary_exponent;
+    let bound = error_bound(n as usize, value);
+    Answer::Answered(Figures {
+        value,
+        binary_exponent: doublings,
+        quadrant: 0,
+        error_bound: bound,
+        remainder,
+    })
 }

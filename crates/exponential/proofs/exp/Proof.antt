@@ -1,10 +1,9 @@
 -- `exponential::exp` meets its contract.
 use mathlib.Core.Path.{_≡_, sym, _∙_, ap, subst}
-use Prim.Native.Nat.{ℕ, _-_}
+use Prim.Native.Nat.{_-_}
 use native.Mathlib.Omega.{arith}
 use lib.IntN.{pos, natAbs}
 use borrow.Author.Needs.{needs}
-use Rattle.algebra.specs.Gauss.{𝔾}
 use Rattle.word.proofs.Fits.{back, sfits-mag}
 use Rattle.point.specs.declared.Point.{Point}
 use Rattle.point.specs.Point.{gauss}
@@ -12,15 +11,12 @@ use Rattle.point.proofs.InLimits.{steps-cast, parts-say}
 use Rattle.answer.specs.declared.Answer.the-variants.{Answered}
 use Rattle.table_numbers.specs.Numbers48.{constants48}
 use Rattle.table_numbers.specs.Table.{stepTable}
-use Rattle.table_numbers.proofs.Promise48.{constants-promise}
-use Rattle.tables.proofs.Promises.{step-promise}
 use Rattle.iteration.specs.declared.State.{State}
 use Rattle.exponential.specs.declared.reduction.Reduced.{Reduced}
-use Rattle.exponential.specs.Reduction.{reduction}
 use Rattle.exponential.specs.Answer.{errorBound, figuresFrom, answer}
 use Rattle.exponential.specs.Code.{Accepted, Right}
 use Rattle.exponential.proofs.Given.{reach-says}
-use Rattle.exponential.proofs.Fits.{ReducedFits, reduced-fits}
+use Rattle.exponential.proofs.Fits.{ReducedFits, fits-48}
 use Rattle.exponential.proofs.Close.{answered, settled}
 use Rattle.exponential.proofs.exp.Statement.{statement}
 use Rattle.exponential.proofs.exp.Tie as tie
@@ -55,28 +51,11 @@ reduce-requires c κs =
     (reach-says 48 (gauss (a .exponent)) (p .reach), parts-say 48 (gauss (a .start)) (p .start))
 
 -- ---- what the steps are given
-module _ (c : tie.After-reduce) where
-  abbrev start : tie.Start
-  start = c .before .before .before .before
+abbrev start : tie.After-reduce → tie.Start
+start c = c .before .before .before .before
 
-  abbrev N : ℕ
-  N = natAbs (start .args .n)
-
-  abbrev e : 𝔾
-  e = gauss (start .args .exponent)
-
-  abbrev s : 𝔾
-  s = gauss (start .args .start)
-
-  passed : Accepted 48 (start .args .n) e s
-  passed = accepted (c .before)
-
-  given : c .reduce .result ≡ reduction 48 constants48 e s
-  given = c .reduce .ensures
-
-  fits : ReducedFits 48 stepTable N (c .reduce .result)
-  fits = subst (ReducedFits 48 stepTable N) (sym given)
-      (reduced-fits 48 (omega arith) (omega arith) stepTable step-promise constants48 constants-promise passed)
+fits : (c : tie.After-reduce) → ReducedFits 48 stepTable (natAbs (start c .args .n)) (c .reduce .result)
+fits c = fits-48 (accepted (c .before)) (c .reduce .ensures)
 
 run-requires : tie.Need-run-requires
 run-requires c κs = let r = c .before .before in simp (back, start r .fits .n) (fits r .steps)
@@ -89,7 +68,16 @@ enum-known-verdict : tie.Need-enum-known-verdict
 enum-known-verdict c = search needs
 
 returns : tie.Need-returns
+unfolding answer
 returns c =
+    let v = c .before in
+    let t = v .before .before in
+    let a = t .before .args in
+    settled (a .n) (a .exponent .x) (a .exponent .y) (a .start .x) (a .start .y)
+    (subst (Right 48 (a .n) (gauss (a .exponent)) (gauss (a .start))) (v .verdict .given .1) (judged t) _)
+
+returns-2 : tie.Need-returns-2
+returns-2 c =
     let t5 = c .before in
     let t4 = t5 .before in
     let t3 = t4 .before in
@@ -98,7 +86,8 @@ returns c =
     let end = ended t5 in
     let r = end .before .before .before in
     let a = start r .args in
-    let all : N r - 0 ≡ N r = omega arith in
+    let n = natAbs (a .n) in
+    let all : n - 0 ≡ n = omega arith in
     let state = rw all at (simp (back, start r .fits .n) at (end .run .ensures)) in
     let value = ap (λ (x : State). x .point) state in
     let left = ap (λ (x : State). x .sum) state in
@@ -106,26 +95,17 @@ returns c =
     let y = back (sfits-mag (end .run .result .point .y) (t2 .struct-told2 .given .1 .0 .1)) ∙ ap (λ (p : Point). p .y) value in
     let left-x = back (sfits-mag (end .run .result .sum .x) (t3 .struct-told3 .given .0 .1)) ∙ ap (λ (p : Point). p .x) left in
     let left-y = back (sfits-mag (end .run .result .sum .y) (t4 .struct-told4 .given .1 .0 .1)) ∙ ap (λ (p : Point). p .y) left in
-    let bound : _ ≡ errorBound (N r) (gauss (r .reduce .result .start)) =
+    let bound : _ ≡ errorBound n (gauss (r .reduce .result .start)) =
     back (sfits-mag (c .error-bound .result) (c .error-bound .ok)) ∙ (simp (back, start r .fits .n) at (c .error-bound .ensures)) in
     settled (a .n) (a .exponent .x) (a .exponent .y) (a .start .x) (a .start .y)
-    (answered 48 stepTable constants48 (a .n) (e r) (s r) (passed r)
-    ∙ (ap (λ (g : Reduced). Answered (figuresFrom 48 stepTable (N r) g)) (sym (given r)) ∙ sym (λ i. Answered (record {
+    (answered 48 stepTable constants48 (a .n) (gauss (a .exponent)) (gauss (a .start)) (accepted (r .before))
+    ∙ (ap (λ (g : Reduced). Answered (figuresFrom 48 stepTable n g)) (sym (r .reduce .ensures)) ∙ sym (λ i. Answered (record {
       value = record { x = x i; y = y i };
       «binary_exponent» = back (fits r .doublings) i;
       quadrant = pos 0;
       «error_bound» = bound i;
       remainder = record { x = left-x i; y = left-y i };
     }))))
-
-returns-2 : tie.Need-returns-2
-unfolding answer
-returns-2 c =
-    let v = c .before in
-    let t = v .before .before in
-    let a = t .before .args in
-    settled (a .n) (a .exponent .x) (a .exponent .y) (a .start .x) (a .start .y)
-    (subst (Right 48 (a .n) (gauss (a .exponent)) (gauss (a .start))) (v .verdict .given .1) (judged t) _)
 
 error-bound-requires : tie.Need-error-bound-requires
 error-bound-requires c κs = let r = ended c .before .before .before in simp (back, start r .fits .n) (fits r .few, fits r .start)
@@ -135,11 +115,11 @@ exp-spec =
     tie.close
     (tie.spec
     test-requires
+    enum-known-verdict
+    returns
     enum-told
     cast-steps
     reduce-requires
     run-requires
     error-bound-requires
-    enum-known-verdict
-    returns
     returns-2)
