@@ -73,8 +73,8 @@ static int fail(const char *what) {
 
 int main(int count, char **given) {
     int64_t numbers[3] = {10, INT64_C(143552238122434), INT64_C(81627743246090)};
-    if (count > 4)
-        return fail("N, ex and ey may be given, and no more");
+    if (count == 3 || count > 4)
+        return fail("nothing is given, or N, or N, ex and ey");
     for (int i = 1; i < count; i++) {
         char *end;
         numbers[i - 1] = strtoll(given[i], &end, 10);

@@ -75,8 +75,8 @@ module _ (F : ℕ) (t : StepTable) (c : Constants) where
 unfoldable pub expAnswer : ℤ → ℤ → ℤ → ℤ → ℤ → Answer
 expAnswer n ex ey sx sy = answer 48 stepTable constants48 n (gi ex ey) (gi sx sy)
 
--- ---- before the first step, whichever engine takes the steps (02, E9: "outside, the reduction comes before both"): the figures of n steps,
--- with the state that the steps are given in the places of value and remainder
+-- ---- before the first step, for a second engine (02, E9: "outside, the reduction comes before both"): the figures of n steps, with the state
+-- that the steps are given in the places of value and remainder
 unfoldable pub beginning : ℕ → Constants → ℤ → 𝔾 → 𝔾 → Answer
 beginning F c n e s = let r = reduction F c e s in unless-refused F n e s (Answered (figuresAt (natAbs n) r (begun r)))
 

@@ -107,8 +107,8 @@ pub fn exp(n: i64, exponent: Point, start: Point) -> Answer
     })
 }
 
-// EXP before its first step, for whichever engine takes the steps: the start and the exponent that they are given stand where the value and
-// the remainder will.
+// EXP before its first step, for a second engine: the start and the exponent that the steps are given stand where the value and the remainder
+// will.
 pub fn begin(n: i64, exponent: Point, start: Point) -> Answer
     ensures { λ r. ⌜ r ≡ expBeginning n (exponent .x) (exponent .y) (start .x) (start .y) ⌝ }
 {

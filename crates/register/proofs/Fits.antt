@@ -40,8 +40,8 @@ twice-size {x} s = record {
   hi = lin (x ∷ []) (s .hi & none) (search reify depth 20) tt;
 }
 
-taken : {x y : ℤ} → Size x (two 61) → Size (pos 2 *ℤ x -ℤ y) (two 61) → Size y (two 61 *ℤ pos 3)
-taken {x} {y} a b = record {
+scaled-size : {x y : ℤ} → Size x (two 61) → Size (pos 2 *ℤ x -ℤ y) (two 61) → Size y (two 61 *ℤ pos 3)
+scaled-size {x} {y} a b = record {
   lo = lin (x ∷ y ∷ []) (a .lo & b .hi & none) (search reify depth 20) tt;
   hi = lin (x ∷ y ∷ []) (a .hi & b .lo & none) (search reify depth 20) tt;
 }
@@ -52,8 +52,8 @@ less-fits {r} {z} {n} h = subst (LessFits r z n) (sym (add-one n)) (record {
   y = sfits-size (h .before .im) tt;
   twice-x = sfits-size (twice-size (h .before .re)) tt;
   twice-y = sfits-size (twice-size (h .before .im)) tt;
-  up-re = sfits-size (taken (h .before .re) (new .re)) tt;
-  up-im = sfits-size (taken (h .before .im) (new .im)) tt;
+  up-re = sfits-size (scaled-size (h .before .re) (new .re)) tt;
+  up-im = sfits-size (scaled-size (h .before .im) (new .im)) tt;
   new-x = sfits-size (new .re) tt;
   new-y = sfits-size (new .im) tt;
   made = less-made r z n;

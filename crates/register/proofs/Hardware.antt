@@ -1,5 +1,5 @@
--- WHAT THE REGISTER'S MAKER MAY RELY ON (02, E9), over any width F and any table that keeps the promise: the digits are those of the register
--- cut after three and four fraction bits, the register's parts are below two in size, and those of the scaled entries below four.
+-- WHAT THE REGISTER'S MAKER MAY RELY ON (02, E9), over a width F from 16 to 48 and any table that keeps the promise: the digits are those of
+-- the register cut after three and four fraction bits, the register's parts are below two in size, and those of the scaled entries below four.
 use mathlib.Core.Path.{_≡_, sym, _∙_, ap, subst}
 use mathlib.Core.List.{List, [], _∷_}
 use Prim.Native.Nat.{ℕ, suc, _+_, _-_, _^_, _≤_, _<_}
@@ -35,8 +35,8 @@ use Rattle.exponential.proofs.Convergence.{Below}
 use Rattle.exponential.proofs.Close.{exponent-below}
 use Rattle.register.specs.Register.{register-select, scaled-entry}
 use Rattle.register.specs.Answer.{register-ended}
-use Rattle.register.specs.Hardware.{leading, cut-select, Bits, Built}
-use Rattle.register.proofs.Simulation.{register-digit, same-digit, same-ended}
+use Rattle.register.specs.Hardware.{leading, cut-select, Bits, InHardware, EntryBits}
+use Rattle.register.proofs.Simulation.{same-digit, same-ended}
 
 -- ---- the digits off the leading bits
 -- "These are the cut digits of 000, cutting by floor"
@@ -150,33 +150,33 @@ module _ (F : ℕ) (wide : 16 ≤ F) (narrow : F ≤ 48) (t : StepTable) (table 
         four : pos 4 *ℤ two F ≡ two (F + 2)
         four = let e : 2 + F ≡ F + 2 = omega arith in two-mul 2 F ∙ ap two e
 
-    entry-narrow : Parts (scaled-entry t (suc n) d) (two (F + 2) -ℤ pos 1)
-    entry-narrow = let p = entry-size F n (omega arith) k (table (suc n) (omega arith) h d k) in record {
-      re = subst (Narrow (F + 2)) (sym (scaled-re S (look t (suc n) d))) (scaled-narrow (look t (suc n) d .re) (p .0));
-      im = subst (Narrow (F + 2)) (sym (scaled-im S (look t (suc n) d))) (scaled-narrow (look t (suc n) d .im) (p .1));
+    pub entry-bits : EntryBits F (scaled-entry t (suc n) d)
+    entry-bits = let p = entry-size F n (omega arith) k (table (suc n) (omega arith) h d k) in record {
+      re = bits (F + 2) (omega arith)
+          (subst (Narrow (F + 2)) (sym (scaled-re S (look t (suc n) d))) (scaled-narrow (look t (suc n) d .re) (p .0)));
+      im = bits (F + 2) (omega arith)
+          (subst (Narrow (F + 2)) (sym (scaled-im S (look t (suc n) d))) (scaled-narrow (look t (suc n) d .im) (p .1)));
     }
 
   -- ---- THE LAW, of every exponent: the reduction brings it into the rectangle
-  pub built : (e s : 𝔾) (n : ℕ) → suc n ≤ F - 8 → Built F t n (register-ended F t n (reduction F c e s))
-  built e s n h = record {
+  pub in-hardware : (e s : 𝔾) (n : ℕ) → n ≤ F - 8 → InHardware F (gauss (register-ended F t n (reduction F c e s) .sum))
+  in-hardware e s n h = record {
     digit = digits-cut F (omega arith) r;
     leading-re = floor-bits (F - 3) (F + 1) 4 5 (r .re) (omega arith) (omega arith) (below .re);
     leading-im = floor-bits (F - 4) (F + 1) 5 6 (r .im) (omega arith) (omega arith) (below .im);
     register-re = bits (F + 1) (omega arith) (below .re);
     register-im = bits (F + 1) (omega arith) (below .im);
-    entry-re = bits (F + 2) (omega arith) (entry .re);
-    entry-im = bits (F + 2) (omega arith) (entry .im);
   }
     where
       r : 𝔾
       r = gauss (register-ended F t n (reduction F c e s) .sum)
 
       below : Parts r (two (F + 1) -ℤ pos 1)
-      below = register-narrow e s n (omega arith)
+      below = register-narrow e s n h
 
-      entry : Parts (scaled-entry t (suc n) (register-select F r)) (two (F + 2) -ℤ pos 1)
-      entry = entry-narrow n (register-select F r) (register-digit F r) h
+-- ---- at the width 48, with no hypothesis left: the register has 50 bits, the scaled entries 51
+pub in-hardware-48 : (e s : 𝔾) (n : ℕ) → n ≤ 40 → InHardware 48 (gauss (register-ended 48 stepTable n (reduction 48 constants48 e s) .sum))
+in-hardware-48 e s n h = in-hardware 48 (omega arith) (omega arith) stepTable step-promise constants48 constants-promise e s n (omega arith)
 
--- at the width 48, with no hypothesis left: the register has 50 bits, the scaled entries 51
-pub built-48 : (e s : 𝔾) (n : ℕ) → n < 40 → Built 48 stepTable n (register-ended 48 stepTable n (reduction 48 constants48 e s))
-built-48 e s n h = built 48 (omega arith) (omega arith) stepTable step-promise constants48 constants-promise e s n (omega arith)
+pub entry-bits-48 : (n : ℕ) (d : 𝔾) → IsDigit d → n < 40 → EntryBits 48 (scaled-entry stepTable (suc n) d)
+entry-bits-48 n d k h = entry-bits 48 (omega arith) (omega arith) stepTable step-promise constants48 constants-promise n d k (omega arith)

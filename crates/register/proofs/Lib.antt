@@ -1,6 +1,6 @@
--- Why the register answers as EXP does, over any width F.
---   Simulation   the register is 2^n times the exponent: the same digits, points and remainders, and so the same answer
---   Hardware     digits off a few leading bits; how many bits the register and its table have
+-- Why the register answers as EXP does.
+--   Simulation   the register is 2^n times the exponent: the same digits, points and remainders, and so the same answer, at any width
+--   Hardware     digits off a few leading bits; how many bits the register and its table have, at a width from 16 to 48
 --
 -- For the code: Loop (one turn of the loop), Fits (nothing overflows), Whole (what was begun fits the engine, and what it makes is the
 -- answer).

@@ -131,8 +131,7 @@ held-back n x = ap (state (gauss (x .point))) (floored (suc n) (gauss (x .sum)))
 pub same-figures : (F : ℕ) (t : StepTable) (n : ℕ) (r : Reduced) → n + 4 ≤ F → registerFigures F t n r ≡ figuresFrom F t n r
 same-figures F t n r h = ap (figuresAt n r) (ap (read-back n) (same-ended F t n r h) ∙ held-back n (ended F t n r))
 
--- ---- THE LAW: "the same digits, answers and remainders as the first for each accepted input and refuses the same inputs with the same
--- numbers"
+-- ---- THE LAW: "the same .. answers and remainders as the first for each accepted input and refuses the same inputs with the same numbers"
 pub same-answer-by : (F : ℕ) (t : StepTable) (c : Constants) (n : ℤ) (e s : 𝔾) → registerAnswerBy F t c n e s ≡ answer F t c n e s
 unfolding registerAnswerBy answer
 same-answer-by F t c n e s = tests-keep F n e s (λ a. a ≡ unless-refused F n e s first) (Answered (registerFigures F t (natAbs n) r))

@@ -1,15 +1,13 @@
--- What the register's maker may rely on (02, E9). No contract has it: the law `built` states it of every step of every exponent.
+-- What the register's maker may rely on (02, E9). No contract has it: the law `in-hardware` states it of the register of every exponent, the
+-- law `entry-bits` of every entry.
 use mathlib.Core.Path.{_≡_}
-use Prim.Native.Nat.{ℕ, suc, _+_, _-_, _^_}
+use Prim.Native.Nat.{ℕ, _+_, _-_, _^_}
 use lib.IntN.{ℤ, pos, negsuc, negℤ}
 use lib.Signed.{shrZ}
 use Rattle.algebra.specs.Gauss.{𝔾, gi, two}
 use Rattle.algebra.specs.Order.{_⩽_, _⋖_}
-use Rattle.point.specs.Point.{gauss}
-use Rattle.table_numbers.specs.Promise.{StepTable}
-use Rattle.iteration.specs.declared.State.{State}
 use Rattle.iteration.specs.Select.{cut}
-use Rattle.register.specs.Register.{register-select, scaled-entry}
+use Rattle.register.specs.Register.{register-select}
 
 -- ---- the cut digits of 000, "cutting by floor" (01, EXP)
 -- 2^n·E_n, its real part cut "after its 3rd fractional digit" and its imaginary part "after its 4th": whole eighths and sixteenths
@@ -25,12 +23,15 @@ pub record Bits (b : ℕ) (x : ℤ) : Type 0 where
   pub least : negℤ (two (b - 1)) ⩽ x
   pub most : x ⋖ two (b - 1)
 
--- ---- before step n + 1, the state after n steps being x
-pub record Built (F : ℕ) (t : StepTable) (n : ℕ) (x : State) : Type 0 where
-  pub digit : cut-select (leading F (gauss (x .sum))) ≡ register-select F (gauss (x .sum))
-  pub leading-re : Bits 5 (leading F (gauss (x .sum)) .re)
-  pub leading-im : Bits 6 (leading F (gauss (x .sum)) .im)
-  pub register-re : Bits (F + 2) (gauss (x .sum) .re)
-  pub register-im : Bits (F + 2) (gauss (x .sum) .im)
-  pub entry-re : Bits (F + 3) (scaled-entry t (suc n) (register-select F (gauss (x .sum))) .re)
-  pub entry-im : Bits (F + 3) (scaled-entry t (suc n) (register-select F (gauss (x .sum))) .im)
+-- ---- before each step and after the last, the register being r
+pub record InHardware (F : ℕ) (r : 𝔾) : Type 0 where
+  pub digit : cut-select (leading F r) ≡ register-select F r
+  pub leading-re : Bits 5 (leading F r .re)
+  pub leading-im : Bits 6 (leading F r .im)
+  pub register-re : Bits (F + 2) (r .re)
+  pub register-im : Bits (F + 2) (r .im)
+
+-- ---- a scaled entry z
+pub record EntryBits (F : ℕ) (z : 𝔾) : Type 0 where
+  pub re : Bits (F + 3) (z .re)
+  pub im : Bits (F + 3) (z .im)

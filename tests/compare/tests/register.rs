@@ -88,15 +88,21 @@ fn figure_1(n: i64) -> Input {
 }
 
 /// Figure 1 of 001. No call hands registers or digits back, but the remainder for each N tells the
-/// register, and with the answer the digit.
+/// register, and the answers for N - 1 and N tell the digit of step N.
 #[test]
 fn steps_of_the_figure() {
-    let mut digits = Vec::new();
+    let nine = [-1, 0, 1].map(|dx| [-1, 0, 1].map(|dy| point(dx, dy))).concat();
+    let (mut before, mut digits) = (EXP.start(), Vec::new());
     for step in register::steps(EXPONENT, EXP.start(), W) {
         let seen = exp_register_figures(figure_1(step.n.into())).expect("an answer");
         assert_eq!(seen.remainder().shifted_up(step.n + 1), step.register, "step {}", step.n);
-        assert_eq!(seen.parts(), step.start, "step {}", step.n);
-        digits.push(step.digit);
+        let leads = |d: &&Digit| before.step(**d, step.n) == seen.parts();
+        let [digit] = nine.iter().filter(leads).collect::<Vec<_>>()[..] else {
+            panic!("not one digit at step {}", step.n);
+        };
+        assert_eq!(*digit, step.digit, "step {}", step.n);
+        digits.push(*digit);
+        before = seen.parts();
     }
     assert_eq!(digits[..8], figure_digits());
     assert_eq!(digits.len(), 40);

@@ -16,17 +16,17 @@ fn bits(number: i128) -> u32 {
     i128::BITS - (number ^ (number >> 127)).leading_zeros() + 1
 }
 
-/// The part that takes more.
-fn bits_of(p: Point) -> u32 {
-    bits(p.x).max(bits(p.y))
+/// Of its two parts.
+fn bits_of(p: Point) -> [u32; 2] {
+    [p.x, p.y].map(bits)
 }
 
-/// What was run: inputs refused, inside the rectangle and outside, and the most bits of a register,
-/// of a scaled entry, and of x and y as they are looked at.
+/// What was run: inputs refused, inside the rectangle and outside, and the most bits of each part
+/// of a register, of a scaled entry, and of what is looked at.
 #[derive(Default)]
 struct Seen {
     inputs: [usize; 3],
-    bits: [u32; 4],
+    bits: [[u32; 2]; 3],
 }
 
 impl Seen {
@@ -50,10 +50,11 @@ impl Seen {
                 "{input:?}"
             );
             before = wanted.exponent;
-            let register = bits_of(step.before).max(bits_of(step.register));
-            let taken = [register, bits_of(step.entry), bits(step.cut.x), bits(step.cut.y)];
-            for (most, taken) in self.bits.iter_mut().zip(taken) {
-                *most = taken.max(*most);
+            let seen = [(0, step.before), (0, step.register), (1, step.entry), (2, step.cut)];
+            for (what, p) in seen {
+                for (most, bits) in self.bits[what].iter_mut().zip(bits_of(p)) {
+                    *most = bits.max(*most);
+                }
             }
         }
         assert_eq!(run.next(), None);
@@ -63,7 +64,8 @@ impl Seen {
     fn check(&self, width: Width) {
         println!("{width:?}: refused, near and far: {:?}; bits: {:?}", self.inputs, self.bits);
         assert!(self.inputs.iter().all(|&count| count > 100));
-        assert_eq!(self.bits, [width.fraction_bits + 2, width.fraction_bits + 3, 5, 6]);
+        let [register, entry] = [2, 3].map(|bits| [width.fraction_bits + bits; 2]);
+        assert_eq!(self.bits, [register, entry, [5, 6]]);
     }
 }
 
