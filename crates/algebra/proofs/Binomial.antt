@@ -5,9 +5,9 @@ use Prim.Native.Nat.{ℕ, zero, suc, ◌+◌, ◌-◌, ◌<◌}
 use native.Mathlib.Nat as NatL
 use native.Mathlib.Omega.{arith}
 use lib.IntN.{pos}
-use Rattle.algebra.proofs.Ring.{Ring, pw, mul-add, zero-mul}
+use Rattle.algebra.proofs.Ring.{Ring, pw, mul_add, zero_mul}
 use Rattle.algebra.proofs.Reify.{ring!, reifyᴿ}
-use Rattle.algebra.proofs.Sum.{sum, sum-cong, sum-add, sum-mul-r, sum_head}
+use Rattle.algebra.proofs.Sum.{sum, sum_cong, sum_add, sum_mul_r, sum_head}
 
 -- the number of ways to choose j of m
 unfoldable pub choose : ℕ → ℕ → ℕ
@@ -15,19 +15,19 @@ choose m zero = 1
 choose zero (suc j) = 0
 choose (suc m) (suc j) = choose m j + choose m (suc j)
 
-pub choose-over : (m : ℕ) (j : ℕ) → m < j → choose m j ≡ 0
+pub choose_over : (m : ℕ) (j : ℕ) → m < j → choose m j ≡ 0
 unfolding choose
-choose-over m zero h = absurd (NatL.not-suc-le-zero h)
-choose-over zero (suc j) h = refl
-choose-over (suc m) (suc j) h = ap₂ ◌+◌ (choose-over m j (omega arith)) (choose-over m (suc j) (omega arith))
+choose_over m zero h = absurd (NatL.not-suc-le-zero h)
+choose_over zero (suc j) h = refl
+choose_over (suc m) (suc j) h = ap₂ ◌+◌ (choose_over m j (omega arith)) (choose_over m (suc j) (omega arith))
 
 module _ (R : Ring) where
-  open R use {A, add, mul, ι, add-zero, mul_assoc, mul-one, add-mul, ι-add}
+  open R use {A, add, mul, ι, add_zero, mul_assoc, mul_one, add_mul, ι_add}
 
   -- ---- powers
-  pub pw-mul : (a b : A) (n : ℕ) → pw R (mul a b) n ≡ mul (pw R a n) (pw R b n)
-  pw-mul a b zero = sym (mul-one (ι (pos 1)))
-  pw-mul a b (suc n) = ap (λ t. mul t (mul a b)) (pw-mul a b n) ∙ ring! R (pw R a n ∷ pw R b n ∷ a ∷ b ∷ []) (search reifyᴿ depth 20) tt
+  pub pw_mul : (a b : A) (n : ℕ) → pw R (mul a b) n ≡ mul (pw R a n) (pw R b n)
+  pw_mul a b zero = sym (mul_one (ι (pos 1)))
+  pw_mul a b (suc n) = ap (λ t. mul t (mul a b)) (pw_mul a b n) ∙ ring! R (pw R a n ∷ pw R b n ∷ a ∷ b ∷ []) (search reifyᴿ depth 20) tt
 
   -- ---- the binomial theorem
   unfoldable pub term : A → A → ℕ → ℕ → A
@@ -41,28 +41,28 @@ module _ (R : Ring) where
     up : ℕ → A
     up j = mul (ι (pos (choose m j))) (mul (pw R a j) (pw R b (suc m - j)))
 
-    times-a : (j : ℕ) → mul (term a b m j) a ≡ lo j
+    times_a : (j : ℕ) → mul (term a b m j) a ≡ lo j
     unfolding term lo
-    times-a j = ring! R (ι (pos (choose m j)) ∷ pw R a j ∷ pw R b (m - j) ∷ a ∷ []) (search reifyᴿ depth 20) tt
+    times_a j = ring! R (ι (pos (choose m j)) ∷ pw R a j ∷ pw R b (m - j) ∷ a ∷ []) (search reifyᴿ depth 20) tt
         ∙ ap (λ k. mul (ι (pos (choose m j))) (mul (pw R a (suc j)) (pw R b k))) (sym (NatL.suc-sub-suc m j))
 
-    times-b : (j : ℕ) → j < suc m → mul (term a b m j) b ≡ up j
+    times_b : (j : ℕ) → j < suc m → mul (term a b m j) b ≡ up j
     unfolding term up
-    times-b j h = ring! R (ι (pos (choose m j)) ∷ pw R a j ∷ pw R b (m - j) ∷ b ∷ []) (search reifyᴿ depth 20) tt
+    times_b j h = ring! R (ι (pos (choose m j)) ∷ pw R a j ∷ pw R b (m - j) ∷ b ∷ []) (search reifyᴿ depth 20) tt
         ∙ ap (λ k. mul (ι (pos (choose m j))) (mul (pw R a j) (pw R b k))) e
       where
         e : suc (m - j) ≡ suc m - j
         e = omega arith
 
-    up-last : up (suc m) ≡ ι (pos 0)
+    up_last : up (suc m) ≡ ι (pos 0)
     unfolding up
-    up-last = ap (λ c. mul (ι (pos c)) (mul (pw R a (suc m)) (pw R b (suc m - suc m)))) (choose-over m (suc m) (omega arith))
-        ∙ zero-mul R (mul (pw R a (suc m)) (pw R b (suc m - suc m)))
+    up_last = ap (λ c. mul (ι (pos c)) (mul (pw R a (suc m)) (pw R b (suc m - suc m)))) (choose_over m (suc m) (omega arith))
+        ∙ zero_mul R (mul (pw R a (suc m)) (pw R b (suc m - suc m)))
 
     next : (j : ℕ) → term a b (suc m) (suc j) ≡ add (lo j) (up (suc j))
     unfolding term lo up choose
-    next j = ap (λ t. mul t (mul (pw R a (suc j)) (pw R b (suc m - suc j)))) (ι-add (pos (choose m j)) (pos (choose m (suc j))))
-        ∙ add-mul (ι (pos (choose m j))) (ι (pos (choose m (suc j)))) (mul (pw R a (suc j)) (pw R b (suc m - suc j)))
+    next j = ap (λ t. mul t (mul (pw R a (suc j)) (pw R b (suc m - suc j)))) (ι_add (pos (choose m j)) (pos (choose m (suc j))))
+        ∙ add_mul (ι (pos (choose m j))) (ι (pos (choose m (suc j)))) (mul (pw R a (suc j)) (pw R b (suc m - suc j)))
 
     first : term a b (suc m) 0 ≡ up 0
     unfolding term up choose
@@ -70,13 +70,13 @@ module _ (R : Ring) where
 
     step : mul (sum R (suc m) (term a b m)) (add a b) ≡ sum R (suc (suc m)) (term a b (suc m))
     step =
-        mul-add R (sum R (suc m) (term a b m)) a b
-        ∙ ap₂ add (sym (sum-mul-r R (suc m) a (term a b m)) ∙ sum-cong R (suc m) (λ j. mul (term a b m j) a) lo (λ j p. times-a j))
-        (sym (sum-mul-r R (suc m) b (term a b m)) ∙ sum-cong R (suc m) (λ j. mul (term a b m j) b) up times-b
-        ∙ sym (ap (λ t. add (sum R (suc m) up) t) up-last ∙ add-zero (sum R (suc m) up)) ∙ sum_head R (suc m) up)
+        mul_add R (sum R (suc m) (term a b m)) a b
+        ∙ ap₂ add (sym (sum_mul_r R (suc m) a (term a b m)) ∙ sum_cong R (suc m) (λ j. mul (term a b m j) a) lo (λ j p. times_a j))
+        (sym (sum_mul_r R (suc m) b (term a b m)) ∙ sum_cong R (suc m) (λ j. mul (term a b m j) b) up times_b
+        ∙ sym (ap (λ t. add (sum R (suc m) up) t) up_last ∙ add_zero (sum R (suc m) up)) ∙ sum_head R (suc m) up)
         ∙ swap3 (sum R (suc m) lo) (up 0) (sum R (suc m) (λ j. up (suc j)))
-        ∙ ap₂ add (sym first) (sym (sum-cong R (suc m) (λ j. term a b (suc m) (suc j)) (λ j. add (lo j) (up (suc j))) (λ j p. next j)
-        ∙ sum-add R (suc m) lo (λ j. up (suc j))))
+        ∙ ap₂ add (sym first) (sym (sum_cong R (suc m) (λ j. term a b (suc m) (suc j)) (λ j. add (lo j) (up (suc j))) (λ j p. next j)
+        ∙ sum_add R (suc m) lo (λ j. up (suc j))))
         ∙ sym (sum_head R (suc m) (term a b (suc m)))
       where
         swap3 : (x y z : A) → add x (add y z) ≡ add y (add x z)

@@ -8,10 +8,10 @@ use lib.Dec.{T}
 use lib.IntN.{ℤ, pos, negsuc, ◌+ℤ◌, ◌*ℤ◌, +ℤ_idr}
 use Rattle.algebra.specs.Order.{◌⩽◌}
 use Rattle.algebra.proofs.Test.{and_left, and_right}
-use Rattle.algebra.proofs.Ring.{mul-zero}
+use Rattle.algebra.proofs.Ring.{mul_zero}
 use Rattle.algebra.proofs.Integer.{ℤR}
-use Rattle.algebra.proofs.Solver.{E, K, ◌:+◌, ◌:-◌, ◌:*◌, P, con, hor, nf, isZ, den, ev, sound, ev-isZ}
-use Rattle.algebra.proofs.Order.{sub-nonneg, nonneg_pos, nonneg-add, nonneg-mul, nonneg-sq}
+use Rattle.algebra.proofs.Solver.{E, K, ◌:+◌, ◌:-◌, ◌:*◌, P, con, hor, nf, is_z, den, ev, sound, ev_is_z}
+use Rattle.algebra.proofs.Order.{sub_nonneg, nonneg_pos, nonneg_add, nonneg_mul, nonneg_sq}
 
 -- a fact l ≤ r between two expressions
 pub data H : Type 0 where
@@ -47,32 +47,32 @@ abbrev pub Holds : List ℤ → List H → Type 0
 Holds ρ [] = Unit {0}
 Holds ρ (h ∷ hs) = Means ρ h × Holds ρ hs
 
-gap-nonneg : (ρ : List ℤ) (hs : List H) → Holds ρ hs → (i : ℕ) → pos 0 ⩽ den ℤR (gap hs i) ρ
-gap-nonneg ρ [] p i = nonneg_pos 0
-gap-nonneg ρ ((l :≤ r) ∷ hs) p zero = sub-nonneg p.0
-gap-nonneg ρ ((l :≤ r) ∷ hs) p (suc i) = gap-nonneg ρ hs p.1 i
+gap_nonneg : (ρ : List ℤ) (hs : List H) → Holds ρ hs → (i : ℕ) → pos 0 ⩽ den ℤR (gap hs i) ρ
+gap_nonneg ρ [] p i = nonneg_pos 0
+gap_nonneg ρ ((l :≤ r) ∷ hs) p zero = sub_nonneg p.0
+gap_nonneg ρ ((l :≤ r) ∷ hs) p (suc i) = gap_nonneg ρ hs p.1 i
 
-cex-nonneg : (ρ : List ℤ) (hs : List H) → Holds ρ hs → (c : C) → pos 0 ⩽ den ℤR (cex hs c) ρ
-cex-nonneg ρ hs p (hyp i) = gap-nonneg ρ hs p i
-cex-nonneg ρ hs p (lit n) = nonneg_pos n
-cex-nonneg ρ hs p (sq e) = nonneg-sq (den ℤR e ρ)
-cex-nonneg ρ hs p (c ⊞ d) = nonneg-add (cex-nonneg ρ hs p c) (cex-nonneg ρ hs p d)
-cex-nonneg ρ hs p (c ⊠ d) = nonneg-mul (cex-nonneg ρ hs p c) (cex-nonneg ρ hs p d)
+cex_nonneg : (ρ : List ℤ) (hs : List H) → Holds ρ hs → (c : C) → pos 0 ⩽ den ℤR (cex hs c) ρ
+cex_nonneg ρ hs p (hyp i) = gap_nonneg ρ hs p i
+cex_nonneg ρ hs p (lit n) = nonneg_pos n
+cex_nonneg ρ hs p (sq e) = nonneg_sq (den ℤR e ρ)
+cex_nonneg ρ hs p (c ⊞ d) = nonneg_add (cex_nonneg ρ hs p c) (cex_nonneg ρ hs p d)
+cex_nonneg ρ hs p (c ⊠ d) = nonneg_mul (cex_nonneg ρ hs p c) (cex_nonneg ρ hs p d)
 
 -- a polynomial that is a negative constant
-abbrev pub isNeg : P → Bool
-isNeg (con (pos n)) = false
-isNeg (con (negsuc n)) = true
-isNeg (hor h t) = isNeg h && isZ t
+abbrev pub is_neg : P → Bool
+is_neg (con (pos n)) = false
+is_neg (con (negsuc n)) = true
+is_neg (hor h t) = is_neg h && is_z t
 
-ev-isNeg : (p : P) (ρ : List ℤ) → T (isNeg p) → pos 0 ⩽ ev ℤR p ρ → ⊥
-ev-isNeg (con (pos n)) ρ t h = t
-ev-isNeg (con (negsuc n)) ρ t h = h.le
-ev-isNeg (hor h u) [] t p = ev-isNeg h [] (and_left (isNeg h) (isZ u) t) p
-ev-isNeg (hor h u) (x ∷ ρ) t p = ev-isNeg h ρ (and_left (isNeg h) (isZ u) t)
-    (subst (λ w. pos 0 ⩽ w) (ap (λ w. ev ℤR h ρ +ℤ x *ℤ w) (ev-isZ ℤR u (x ∷ ρ) (and_right (isNeg h) (isZ u) t))
-    ∙ ap (λ w. ev ℤR h ρ +ℤ w) (mul-zero ℤR x) ∙ +ℤ_idr (ev ℤR h ρ)) p)
+ev_is_neg : (p : P) (ρ : List ℤ) → T (is_neg p) → pos 0 ⩽ ev ℤR p ρ → ⊥
+ev_is_neg (con (pos n)) ρ t h = t
+ev_is_neg (con (negsuc n)) ρ t h = h.le
+ev_is_neg (hor h u) [] t p = ev_is_neg h [] (and_left (is_neg h) (is_z u) t) p
+ev_is_neg (hor h u) (x ∷ ρ) t p = ev_is_neg h ρ (and_left (is_neg h) (is_z u) t)
+    (subst (λ w. pos 0 ⩽ w) (ap (λ w. ev ℤR h ρ +ℤ x *ℤ w) (ev_is_z ℤR u (x ∷ ρ) (and_right (is_neg h) (is_z u) t))
+    ∙ ap (λ w. ev ℤR h ρ +ℤ w) (mul_zero ℤR x) ∙ +ℤ_idr (ev ℤR h ρ)) p)
 
 -- THE THEOREM: where the certificate's sum is a negative constant, the facts do not all hold
-pub refute : (ρ : List ℤ) (hs : List H) (c : C) → T (isNeg (nf (cex hs c))) → Holds ρ hs → ⊥
-refute ρ hs c t p = ev-isNeg (nf (cex hs c)) ρ t (subst (λ w. pos 0 ⩽ w) (sound ℤR (cex hs c) ρ) (cex-nonneg ρ hs p c))
+pub refute : (ρ : List ℤ) (hs : List H) (c : C) → T (is_neg (nf (cex hs c))) → Holds ρ hs → ⊥
+refute ρ hs c t p = ev_is_neg (nf (cex hs c)) ρ t (subst (λ w. pos 0 ⩽ w) (sound ℤR (cex hs c) ρ) (cex_nonneg ρ hs p c))

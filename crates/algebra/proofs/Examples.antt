@@ -10,9 +10,9 @@ use Rattle.algebra.proofs.Ring.{Ring}
 use Rattle.algebra.proofs.Integer.{ℤR}
 use Rattle.algebra.proofs.Gauss.{𝔾R}
 use Rattle.algebra.proofs.Reify.{ring!, reify, reifyᵍ, reifyᴿ}
-use Rattle.algebra.proofs.Order.{nonneg-mul, nonneg-sq, sub-nonneg, pos-inj-le}
+use Rattle.algebra.proofs.Order.{nonneg_mul, nonneg_sq, sub_nonneg, pos_inj_le}
 use Rattle.algebra.proofs.Linear.{lin, lin<, ◌&◌, ◌&<◌, ◌&≡◌, ◌&ℕ◌, none}
-use Rattle.algebra.proofs.Within.{within-add, within-mul}
+use Rattle.algebra.proofs.Within.{within_add, within_mul}
 
 -- ---- identities
 cube : (a b : ℤ) → (a +ℤ b) *ℤ (a +ℤ b) *ℤ (a +ℤ b) ≡ a *ℤ a *ℤ a +ℤ pos 3 *ℤ (a *ℤ a) *ℤ b +ℤ pos 3 *ℤ a *ℤ (b *ℤ b) +ℤ b *ℤ b *ℤ b
@@ -22,8 +22,8 @@ cube a b = ring! ℤR (a ∷ b ∷ []) (search reify depth 20) tt
 squares : (m : ℤ) (z w : 𝔾) → ιᵍ (m *ℤ m) *ᵍ (z *ᵍ z) -ᵍ w *ᵍ w ≡ (ιᵍ m *ᵍ z -ᵍ w) *ᵍ (ιᵍ m *ᵍ z +ᵍ w)
 squares m z w = ring! 𝔾R (ιᵍ m ∷ z ∷ w ∷ []) (search reifyᵍ depth 20) tt
 
-over-any-ring : (R : Ring) (a b c : R.A) → R.mul a (R.add b c) ≡ R.add (R.mul c a) (R.mul b a)
-over-any-ring R a b c = ring! R (a ∷ b ∷ c ∷ []) (search reifyᴿ depth 20) tt
+over_any_ring : (R : Ring) (a b c : R.A) → R.mul a (R.add b c) ≡ R.add (R.mul c a) (R.mul b a)
+over_any_ring R a b c = ring! R (a ∷ b ∷ c ∷ []) (search reifyᴿ depth 20) tt
 
 -- ---- inequalities
 chain : (a b c d : ℤ) → a +ℤ b ⩽ c → pos 2 *ℤ c ⩽ d → pos 0 ⩽ b → pos 2 *ℤ a ⩽ d
@@ -32,10 +32,10 @@ chain a b c d h k l = lin (a ∷ b ∷ c ∷ d ∷ []) (h & k & l & none) (searc
 -- products that the goal needs are listed as facts
 product : (a b c d : ℤ) → pos 0 ⩽ a → a ⩽ b → pos 0 ⩽ c → c ⩽ d → a *ℤ c ⩽ b *ℤ d
 product a b c d h k l m = lin (a ∷ b ∷ c ∷ d ∷ [])
-    (nonneg-mul h (sub-nonneg m) & nonneg-mul l (sub-nonneg k) & nonneg-mul (sub-nonneg k) (sub-nonneg m) & none) (search reify depth 20) tt
+    (nonneg_mul h (sub_nonneg m) & nonneg_mul l (sub_nonneg k) & nonneg_mul (sub_nonneg k) (sub_nonneg m) & none) (search reify depth 20) tt
 
 means : (a b : ℤ) → pos 2 *ℤ (a *ℤ b) ⩽ a *ℤ a +ℤ b *ℤ b
-means a b = lin (a ∷ b ∷ []) (nonneg-sq (a -ℤ b) & none) (search reify depth 20) tt
+means a b = lin (a ∷ b ∷ []) (nonneg_sq (a -ℤ b) & none) (search reify depth 20) tt
 
 -- strict facts, equations and facts of ℕ
 strict : (a b c : ℤ) → a ⋖ b → b ≡ c -ℤ pos 1 → a ⋖ c
@@ -44,9 +44,9 @@ strict a b c h e = lin< (a ∷ b ∷ c ∷ []) (h &< e &≡ none) (search reify 
 naturals : (m n : ℕ) (a : ℤ) → m < n → pos n ⩽ a → pos (suc m) ⩽ a
 naturals m n a h k = lin (pos m ∷ pos n ∷ a ∷ []) (h &ℕ k & none) (search reify depth 20) tt
 
-back-to-naturals : (m n : ℕ) (a : ℤ) → pos m ⩽ a → pos 2 *ℤ a ⋖ pos n → 2 * m + 1 ≤ n
-back-to-naturals m n a h k = pos-inj-le (lin (pos m ∷ pos n ∷ a ∷ []) (h & k &< none) (search reify depth 20) tt)
+back_to_naturals : (m n : ℕ) (a : ℤ) → pos m ⩽ a → pos 2 *ℤ a ⋖ pos n → 2 * m + 1 ≤ n
+back_to_naturals m n a h k = pos_inj_le (lin (pos m ∷ pos n ∷ a ∷ []) (h & k &< none) (search reify depth 20) tt)
 
 -- ---- lengths: |u v + w| ≤ r s + t
-product-error : (u v w : 𝔾) (r s t : ℤ) → Within u r → Within v s → Within w t → Within (u *ᵍ v +ᵍ w) (r *ℤ s +ℤ t)
-product-error u v w r s t p q k = within-add (within-mul p q) k
+product_error : (u v w : 𝔾) (r s t : ℤ) → Within u r → Within v s → Within w t → Within (u *ᵍ v +ᵍ w) (r *ℤ s +ℤ t)
+product_error u v w r s t p q k = within_add (within_mul p q) k

@@ -10,7 +10,7 @@ use lib.Signed.{shr_z}
 use Rattle.algebra.specs.Order.{◌⩽◌}
 use Rattle.algebra.specs.Rounding.{nearest, ceiling}
 use Rattle.algebra.proofs.Reify.{reify}
-use Rattle.algebra.proofs.Order.{pos-mono, ⩽-antisym}
+use Rattle.algebra.proofs.Order.{pos_mono, ⩽_antisym}
 use Rattle.algebra.proofs.Linear.{lin, ◌&◌, ◌&ℕ◌, none}
 use Rattle.algebra.proofs.Inequality.{below_next}
 
@@ -22,57 +22,57 @@ module _ (m : ℕ) (h : 0 < m) where
   hi : (a : ℕ) → a + 1 ≤ m * (a / m) + m
   hi a = omega (arith, div-add-mod a m, mod-lt a h)
 
-  pub floor-lo : (z : ℤ) → pos m *ℤ shr_z z m ⩽ z
-  floor-lo (pos a) = pos-mono (lo a)
-  floor-lo (negsuc a) = lin (pos a ∷ pos (a / m) ∷ pos m ∷ []) (hi a &ℕ none) (search reify depth 20) tt
+  pub floor_lo : (z : ℤ) → pos m *ℤ shr_z z m ⩽ z
+  floor_lo (pos a) = pos_mono (lo a)
+  floor_lo (negsuc a) = lin (pos a ∷ pos (a / m) ∷ pos m ∷ []) (hi a &ℕ none) (search reify depth 20) tt
 
-  pub floor-hi : (z : ℤ) → z +ℤ pos 1 ⩽ pos m *ℤ shr_z z m +ℤ pos m
-  floor-hi (pos a) = pos-mono (hi a)
-  floor-hi (negsuc a) = lin (pos a ∷ pos (a / m) ∷ pos m ∷ []) (lo a &ℕ none) (search reify depth 20) tt
+  pub floor_hi : (z : ℤ) → z +ℤ pos 1 ⩽ pos m *ℤ shr_z z m +ℤ pos m
+  floor_hi (pos a) = pos_mono (hi a)
+  floor_hi (negsuc a) = lin (pos a ∷ pos (a / m) ∷ pos m ∷ []) (lo a &ℕ none) (search reify depth 20) tt
 
   -- the only number with that
-  pub floor-unique : (z q : ℤ) → pos m *ℤ q ⩽ z → z +ℤ pos 1 ⩽ pos m *ℤ q +ℤ pos m → shr_z z m ≡ q
-  floor-unique z q k l = ⩽-antisym
-      (below_next (pos m) (pos-mono h) (lin (pos m ∷ shr_z z m ∷ z ∷ q ∷ []) (floor-lo z & l & none) (search reify depth 20) tt))
-      (below_next (pos m) (pos-mono h) (lin (pos m ∷ shr_z z m ∷ z ∷ q ∷ []) (floor-hi z & k & none) (search reify depth 20) tt))
+  pub floor_unique : (z q : ℤ) → pos m *ℤ q ⩽ z → z +ℤ pos 1 ⩽ pos m *ℤ q +ℤ pos m → shr_z z m ≡ q
+  floor_unique z q k l = ⩽_antisym
+      (below_next (pos m) (pos_mono h) (lin (pos m ∷ shr_z z m ∷ z ∷ q ∷ []) (floor_lo z & l & none) (search reify depth 20) tt))
+      (below_next (pos m) (pos_mono h) (lin (pos m ∷ shr_z z m ∷ z ∷ q ∷ []) (floor_hi z & k & none) (search reify depth 20) tt))
 
-pub floor-one : (z : ℤ) → shr_z z 1 ≡ z
-floor-one (pos a) = ap pos (div-one a)
-floor-one (negsuc a) = ap negsuc (div-one a)
+pub floor_one : (z : ℤ) → shr_z z 1 ≡ z
+floor_one (pos a) = ap pos (div-one a)
+floor_one (negsuc a) = ap negsuc (div-one a)
 
 -- ---- the nearest whole number to z/m, the upper one of two: floor(z/m + 1/2)
 -- it is off by at most a half: −m ≤ 2 (z − m · nearest) < m
 module _ (m : ℕ) (h : 0 < m) where
-  pub nearest-lo : (z : ℤ) → pos 2 *ℤ (pos m *ℤ nearest z m) ⩽ pos 2 *ℤ z +ℤ pos m
+  pub nearest_lo : (z : ℤ) → pos 2 *ℤ (pos m *ℤ nearest z m) ⩽ pos 2 *ℤ z +ℤ pos m
   unfolding nearest
-  nearest-lo z = lin (pos m ∷ z ∷ nearest z m ∷ []) (floor-lo (2 * m) (omega arith) (pos 2 *ℤ z +ℤ pos m) & none) (search reify depth 20) tt
+  nearest_lo z = lin (pos m ∷ z ∷ nearest z m ∷ []) (floor_lo (2 * m) (omega arith) (pos 2 *ℤ z +ℤ pos m) & none) (search reify depth 20) tt
 
-  pub nearest-hi : (z : ℤ) → pos 2 *ℤ z +ℤ pos 1 ⩽ pos 2 *ℤ (pos m *ℤ nearest z m) +ℤ pos m
+  pub nearest_hi : (z : ℤ) → pos 2 *ℤ z +ℤ pos 1 ⩽ pos 2 *ℤ (pos m *ℤ nearest z m) +ℤ pos m
   unfolding nearest
-  nearest-hi z = lin (pos m ∷ z ∷ nearest z m ∷ []) (floor-hi (2 * m) (omega arith) (pos 2 *ℤ z +ℤ pos m) & none) (search reify depth 20) tt
+  nearest_hi z = lin (pos m ∷ z ∷ nearest z m ∷ []) (floor_hi (2 * m) (omega arith) (pos 2 *ℤ z +ℤ pos m) & none) (search reify depth 20) tt
 
   -- the floor after half of m is added; m = 1 has no half
-  pub nearest-half : (z : ℤ) → shr_z (z +ℤ pos (m / 2)) m ≡ nearest z m
-  nearest-half z = floor-unique m h (z +ℤ pos (m / 2)) (nearest z m)
-      (below_next (pos 2) (record { le = tt }) (lin ρ (nearest-lo z & hi 2 (omega arith) m &ℕ none) (search reify depth 20) tt))
-      (below_next (pos 2) (record { le = tt }) (lin ρ (nearest-hi z & lo 2 (omega arith) m &ℕ none) (search reify depth 20) tt))
+  pub nearest_half : (z : ℤ) → shr_z (z +ℤ pos (m / 2)) m ≡ nearest z m
+  nearest_half z = floor_unique m h (z +ℤ pos (m / 2)) (nearest z m)
+      (below_next (pos 2) (record { le = tt }) (lin ρ (nearest_lo z & hi 2 (omega arith) m &ℕ none) (search reify depth 20) tt))
+      (below_next (pos 2) (record { le = tt }) (lin ρ (nearest_hi z & lo 2 (omega arith) m &ℕ none) (search reify depth 20) tt))
     where
       ρ : List ℤ
       ρ = pos m ∷ pos (m / 2) ∷ z ∷ nearest z m ∷ []
 
   -- c more where c · m is added
-  pub nearest-shifted : (z c : ℤ) → shr_z (pos 2 *ℤ z +ℤ pos m +ℤ pos 2 *ℤ pos m *ℤ c) (2 * m) ≡ nearest z m +ℤ c
-  nearest-shifted z c = floor-unique (2 * m) (omega arith) (pos 2 *ℤ z +ℤ pos m +ℤ pos 2 *ℤ pos m *ℤ c) (nearest z m +ℤ c)
-      (lin (z ∷ c ∷ pos m ∷ nearest z m ∷ []) (nearest-lo z & none) (search reify depth 20) tt)
-      (lin (z ∷ c ∷ pos m ∷ nearest z m ∷ []) (nearest-hi z & none) (search reify depth 20) tt)
+  pub nearest_shifted : (z c : ℤ) → shr_z (pos 2 *ℤ z +ℤ pos m +ℤ pos 2 *ℤ pos m *ℤ c) (2 * m) ≡ nearest z m +ℤ c
+  nearest_shifted z c = floor_unique (2 * m) (omega arith) (pos 2 *ℤ z +ℤ pos m +ℤ pos 2 *ℤ pos m *ℤ c) (nearest z m +ℤ c)
+      (lin (z ∷ c ∷ pos m ∷ nearest z m ∷ []) (nearest_lo z & none) (search reify depth 20) tt)
+      (lin (z ∷ c ∷ pos m ∷ nearest z m ∷ []) (nearest_hi z & none) (search reify depth 20) tt)
 
 -- ---- z/m rounded up: the least whole number that is not below it
 module _ (m : ℕ) (h : 0 < m) where
-  pub ceiling-enough : (z : ℤ) → z ⩽ ceiling z m *ℤ pos m
+  pub ceiling_enough : (z : ℤ) → z ⩽ ceiling z m *ℤ pos m
   unfolding ceiling
-  ceiling-enough z = lin (z ∷ pos m ∷ shr_z (neg_ℤ z) m ∷ []) (floor-lo m h (neg_ℤ z) & none) (search reify depth 20) tt
+  ceiling_enough z = lin (z ∷ pos m ∷ shr_z (neg_ℤ z) m ∷ []) (floor_lo m h (neg_ℤ z) & none) (search reify depth 20) tt
 
-  pub ceiling-least : (z c : ℤ) → z ⩽ c *ℤ pos m → ceiling z m ⩽ c
+  pub ceiling_least : (z c : ℤ) → z ⩽ c *ℤ pos m → ceiling z m ⩽ c
   unfolding ceiling
-  ceiling-least z c k = below_next (pos m) (pos-mono h)
-      (lin (z ∷ c ∷ pos m ∷ shr_z (neg_ℤ z) m ∷ []) (floor-hi m h (neg_ℤ z) & k & none) (search reify depth 20) tt)
+  ceiling_least z c k = below_next (pos m) (pos_mono h)
+      (lin (z ∷ c ∷ pos m ∷ shr_z (neg_ℤ z) m ∷ []) (floor_hi m h (neg_ℤ z) & k & none) (search reify depth 20) tt)

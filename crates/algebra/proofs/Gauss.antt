@@ -8,8 +8,8 @@ use Rattle.algebra.proofs.Ring.{Ring, pw}
 use Rattle.algebra.proofs.Integer.{ℤR}
 use Rattle.algebra.proofs.Solver.{E, X, K, ◌:+◌, ◌:-◌, ◌:*◌, :neg, ring, den, nf, Zero}
 
-pub gi-path : {z w : 𝔾} → z.re ≡ w.re → z.im ≡ w.im → z ≡ w
-gi-path p q = λ i. record { re = p i; im = q i }
+pub gi_path : {z w : 𝔾} → z.re ≡ w.re → z.im ≡ w.im → z ≡ w
+gi_path p q = λ i. record { re = p i; im = q i }
 
 -- ---- the ring's laws, part by part: expressions for the two parts of a number
 record GE : Type 0 where
@@ -46,7 +46,7 @@ abbrev denᵍ : GE → List ℤ → 𝔾
 denᵍ e ρ = record { re = den ℤR e.re ρ; im = den ℤR e.im ρ }
 
 ringᵍ : (ρ : List ℤ) (a b : GE) → Zero (nf (a.re :- b.re)) → Zero (nf (a.im :- b.im)) → denᵍ a ρ ≡ denᵍ b ρ
-ringᵍ ρ a b p q = gi-path (ring ℤR ρ a.re b.re p) (ring ℤR ρ a.im b.im q)
+ringᵍ ρ a b p q = gi_path (ring ℤR ρ a.re b.re p) (ring ℤR ρ a.im b.im q)
 
 abbrev ρ₁ : 𝔾 → List ℤ
 ρ₁ z = z.re ∷ z.im ∷ []
@@ -57,49 +57,49 @@ abbrev ρ₂ : 𝔾 → 𝔾 → List ℤ
 abbrev ρ₃ : 𝔾 → 𝔾 → 𝔾 → List ℤ
 ρ₃ z w u = z.re ∷ z.im ∷ w.re ∷ w.im ∷ u.re ∷ u.im ∷ []
 
-pub g-add-assoc : (a b c : 𝔾) → a +ᵍ b +ᵍ c ≡ a +ᵍ (b +ᵍ c)
+pub g_add_assoc : (a b c : 𝔾) → a +ᵍ b +ᵍ c ≡ a +ᵍ (b +ᵍ c)
 unfolding ◌+ᵍ◌ ◌*ᵍ◌ negᵍ ιᵍ
-g-add-assoc a b c = ringᵍ (ρ₃ a b c) (x₀ ⊕ x₁ ⊕ x₂) (x₀ ⊕ (x₁ ⊕ x₂)) tt tt
+g_add_assoc a b c = ringᵍ (ρ₃ a b c) (x₀ ⊕ x₁ ⊕ x₂) (x₀ ⊕ (x₁ ⊕ x₂)) tt tt
 
-pub g-add-comm : (a b : 𝔾) → a +ᵍ b ≡ b +ᵍ a
+pub g_add_comm : (a b : 𝔾) → a +ᵍ b ≡ b +ᵍ a
 unfolding ◌+ᵍ◌ ◌*ᵍ◌ negᵍ ιᵍ
-g-add-comm a b = ringᵍ (ρ₃ a b a) (x₀ ⊕ x₁) (x₁ ⊕ x₀) tt tt
+g_add_comm a b = ringᵍ (ρ₃ a b a) (x₀ ⊕ x₁) (x₁ ⊕ x₀) tt tt
 
-pub g-add-zero : (a : 𝔾) → a +ᵍ ιᵍ (pos 0) ≡ a
+pub g_add_zero : (a : 𝔾) → a +ᵍ ιᵍ (pos 0) ≡ a
 unfolding ◌+ᵍ◌ ◌*ᵍ◌ negᵍ ιᵍ
-g-add-zero a = ringᵍ (ρ₁ a) (x₀ ⊕ gk (pos 0)) x₀ tt tt
+g_add_zero a = ringᵍ (ρ₁ a) (x₀ ⊕ gk (pos 0)) x₀ tt tt
 
-pub g-add-neg : (a : 𝔾) → a +ᵍ negᵍ a ≡ ιᵍ (pos 0)
+pub g_add_neg : (a : 𝔾) → a +ᵍ negᵍ a ≡ ιᵍ (pos 0)
 unfolding ◌+ᵍ◌ ◌*ᵍ◌ negᵍ ιᵍ
-g-add-neg a = ringᵍ (ρ₁ a) (x₀ ⊕ ⊖ x₀) (gk (pos 0)) tt tt
+g_add_neg a = ringᵍ (ρ₁ a) (x₀ ⊕ ⊖ x₀) (gk (pos 0)) tt tt
 
-pub g-mul-assoc : (a b c : 𝔾) → a *ᵍ b *ᵍ c ≡ a *ᵍ (b *ᵍ c)
+pub g_mul_assoc : (a b c : 𝔾) → a *ᵍ b *ᵍ c ≡ a *ᵍ (b *ᵍ c)
 unfolding ◌+ᵍ◌ ◌*ᵍ◌ negᵍ ιᵍ
-g-mul-assoc a b c = ringᵍ (ρ₃ a b c) (x₀ ⊗ x₁ ⊗ x₂) (x₀ ⊗ (x₁ ⊗ x₂)) tt tt
+g_mul_assoc a b c = ringᵍ (ρ₃ a b c) (x₀ ⊗ x₁ ⊗ x₂) (x₀ ⊗ (x₁ ⊗ x₂)) tt tt
 
-pub g-mul-comm : (a b : 𝔾) → a *ᵍ b ≡ b *ᵍ a
+pub g_mul_comm : (a b : 𝔾) → a *ᵍ b ≡ b *ᵍ a
 unfolding ◌+ᵍ◌ ◌*ᵍ◌ negᵍ ιᵍ
-g-mul-comm a b = ringᵍ (ρ₃ a b a) (x₀ ⊗ x₁) (x₁ ⊗ x₀) tt tt
+g_mul_comm a b = ringᵍ (ρ₃ a b a) (x₀ ⊗ x₁) (x₁ ⊗ x₀) tt tt
 
-pub g-mul-one : (a : 𝔾) → a *ᵍ ιᵍ (pos 1) ≡ a
+pub g_mul_one : (a : 𝔾) → a *ᵍ ιᵍ (pos 1) ≡ a
 unfolding ◌+ᵍ◌ ◌*ᵍ◌ negᵍ ιᵍ
-g-mul-one a = ringᵍ (ρ₁ a) (x₀ ⊗ gk (pos 1)) x₀ tt tt
+g_mul_one a = ringᵍ (ρ₁ a) (x₀ ⊗ gk (pos 1)) x₀ tt tt
 
-pub g-add-mul : (a b c : 𝔾) → (a +ᵍ b) *ᵍ c ≡ a *ᵍ c +ᵍ b *ᵍ c
+pub g_add_mul : (a b c : 𝔾) → (a +ᵍ b) *ᵍ c ≡ a *ᵍ c +ᵍ b *ᵍ c
 unfolding ◌+ᵍ◌ ◌*ᵍ◌ negᵍ ιᵍ
-g-add-mul a b c = ringᵍ (ρ₃ a b c) ((x₀ ⊕ x₁) ⊗ x₂) (x₀ ⊗ x₂ ⊕ x₁ ⊗ x₂) tt tt
+g_add_mul a b c = ringᵍ (ρ₃ a b c) ((x₀ ⊕ x₁) ⊗ x₂) (x₀ ⊗ x₂ ⊕ x₁ ⊗ x₂) tt tt
 
-pub g-ι-add : (m n : ℤ) → ιᵍ (m +ℤ n) ≡ ιᵍ m +ᵍ ιᵍ n
+pub g_ι_add : (m n : ℤ) → ιᵍ (m +ℤ n) ≡ ιᵍ m +ᵍ ιᵍ n
 unfolding ◌+ᵍ◌ ◌*ᵍ◌ negᵍ ιᵍ
-g-ι-add m n = refl
+g_ι_add m n = refl
 
-pub g-ι-mul : (m n : ℤ) → ιᵍ (m *ℤ n) ≡ ιᵍ m *ᵍ ιᵍ n
+pub g_ι_mul : (m n : ℤ) → ιᵍ (m *ℤ n) ≡ ιᵍ m *ᵍ ιᵍ n
 unfolding ◌+ᵍ◌ ◌*ᵍ◌ negᵍ ιᵍ
-g-ι-mul m n = ringᵍ (m ∷ n ∷ []) (gv (X 0 :* X 1) (K (pos 0))) (gv (X 0) (K (pos 0)) ⊗ gv (X 1) (K (pos 0))) tt tt
+g_ι_mul m n = ringᵍ (m ∷ n ∷ []) (gv (X 0 :* X 1) (K (pos 0))) (gv (X 0) (K (pos 0)) ⊗ gv (X 1) (K (pos 0))) tt tt
 
-pub g-ι-neg : (m : ℤ) → ιᵍ (neg_ℤ m) ≡ negᵍ (ιᵍ m)
+pub g_ι_neg : (m : ℤ) → ιᵍ (neg_ℤ m) ≡ negᵍ (ιᵍ m)
 unfolding ◌+ᵍ◌ ◌*ᵍ◌ negᵍ ιᵍ
-g-ι-neg m = refl
+g_ι_neg m = refl
 
 abbrev pub 𝔾R : Ring
 𝔾R = record {
@@ -108,35 +108,35 @@ abbrev pub 𝔾R : Ring
   mul = ◌*ᵍ◌;
   neg = negᵍ;
   ι = ιᵍ;
-  add_assoc = g-add-assoc;
-  add_comm = g-add-comm;
-  add-zero = g-add-zero;
-  add-neg = g-add-neg;
-  mul_assoc = g-mul-assoc;
-  mul_comm = g-mul-comm;
-  mul-one = g-mul-one;
-  add-mul = g-add-mul;
-  ι-add = g-ι-add;
-  ι-mul = g-ι-mul;
-  ι-neg = g-ι-neg;
+  add_assoc = g_add_assoc;
+  add_comm = g_add_comm;
+  add_zero = g_add_zero;
+  add_neg = g_add_neg;
+  mul_assoc = g_mul_assoc;
+  mul_comm = g_mul_comm;
+  mul_one = g_mul_one;
+  add_mul = g_add_mul;
+  ι_add = g_ι_add;
+  ι_mul = g_ι_mul;
+  ι_neg = g_ι_neg;
 }
 
 -- a power, in the ring's words
-pub power-is : (z : 𝔾) (n : ℕ) → pw 𝔾R z n ≡ z ^ᵍ n
+pub power_is : (z : 𝔾) (n : ℕ) → pw 𝔾R z n ≡ z ^ᵍ n
 unfolding ◌^ᵍ◌
-power-is z zero = refl
-power-is z (suc n) = ap (λ w. w *ᵍ z) (power-is z n)
+power_is z zero = refl
+power_is z (suc n) = ap (λ w. w *ᵍ z) (power_is z n)
 
 -- and of a real number
-pub ι-power : (a : ℤ) (n : ℕ) → ιᵍ a ^ᵍ n ≡ ιᵍ (pw ℤR a n)
+pub ι_power : (a : ℤ) (n : ℕ) → ιᵍ a ^ᵍ n ≡ ιᵍ (pw ℤR a n)
 unfolding ◌^ᵍ◌
-ι-power a zero = refl
-ι-power a (suc n) = ap (λ z. z *ᵍ ιᵍ a) (ι-power a n) ∙ sym (g-ι-mul (pw ℤR a n) a)
+ι_power a zero = refl
+ι_power a (suc n) = ap (λ z. z *ᵍ ιᵍ a) (ι_power a n) ∙ sym (g_ι_mul (pw ℤR a n) a)
 
 -- ---- conjugate, and times i
-pub i-mul : (z : 𝔾) → iᵍ *ᵍ z ≡ gi (neg_ℤ z.im) z.re
+pub i_mul : (z : 𝔾) → iᵍ *ᵍ z ≡ gi (neg_ℤ z.im) z.re
 unfolding ◌*ᵍ◌
-i-mul z = ringᵍ (ρ₁ z) (gv (K (pos 0)) (K (pos 1)) ⊗ x₀) (gv (:neg x₀.im) x₀.re) tt tt
+i_mul z = ringᵍ (ρ₁ z) (gv (K (pos 0)) (K (pos 1)) ⊗ x₀) (gv (:neg x₀.im) x₀.re) tt tt
 
 -- ---- the square of the length, and the inner product
 abbrev pub dot : 𝔾 → 𝔾 → ℤ

@@ -24,8 +24,8 @@ pub +ℤ-*ℤ : (a b c : ℤ) → (a +ℤ b) *ℤ c ≡ a *ℤ c +ℤ b *ℤ c
     ∙ ap (λ t. t +ℤ b *ℤ c) (sym (pred_ℤ-*ℤ k c)))
     a
 
-pub negℤ-*ℤ : (a c : ℤ) → neg_ℤ a *ℤ c ≡ neg_ℤ (a *ℤ c)
-negℤ-*ℤ a c = ind (λ x. neg_ℤ x *ℤ c ≡ neg_ℤ (x *ℤ c))
+pub neg_ℤ-*ℤ : (a c : ℤ) → neg_ℤ a *ℤ c ≡ neg_ℤ (a *ℤ c)
+neg_ℤ-*ℤ a c = ind (λ x. neg_ℤ x *ℤ c ≡ neg_ℤ (x *ℤ c))
     (zero-*ℤ c ∙ ap neg_ℤ (sym (zero-*ℤ c)))
     (λ k h. ap (λ t. t *ℤ c) (neg_ℤ-suc_ℤ k) ∙ pred_ℤ-*ℤ (neg_ℤ k) c ∙ ap (λ t. t -ℤ c) h ∙ sym (neg_ℤ-+ℤ (k *ℤ c) c)
     ∙ ap neg_ℤ (sym (suc_ℤ-*ℤ k c)))
@@ -33,17 +33,17 @@ negℤ-*ℤ a c = ind (λ x. neg_ℤ x *ℤ c ≡ neg_ℤ (x *ℤ c))
     ∙ sym (neg_ℤ-+ℤ (k *ℤ c) (neg_ℤ c)) ∙ ap neg_ℤ (sym (pred_ℤ-*ℤ k c)))
     a
 
-pub *ℤ-assoc : (a b c : ℤ) → (a *ℤ b) *ℤ c ≡ a *ℤ (b *ℤ c)
-*ℤ-assoc a b c = ind (λ x. (x *ℤ b) *ℤ c ≡ x *ℤ (b *ℤ c))
+pub *ℤ_assoc : (a b c : ℤ) → (a *ℤ b) *ℤ c ≡ a *ℤ (b *ℤ c)
+*ℤ_assoc a b c = ind (λ x. (x *ℤ b) *ℤ c ≡ x *ℤ (b *ℤ c))
     (ap (λ t. t *ℤ c) (zero-*ℤ b) ∙ zero-*ℤ c ∙ sym (zero-*ℤ (b *ℤ c)))
     (λ k h. ap (λ t. t *ℤ c) (suc_ℤ-*ℤ k b) ∙ +ℤ-*ℤ (k *ℤ b) b c ∙ ap (λ t. t +ℤ b *ℤ c) h ∙ sym (suc_ℤ-*ℤ k (b *ℤ c)))
     (λ k h. ap (λ t. t *ℤ c) (pred_ℤ-*ℤ k b) ∙ +ℤ-*ℤ (k *ℤ b) (neg_ℤ b) c ∙ ap (λ t. t +ℤ neg_ℤ b *ℤ c) h
-    ∙ ap (λ t. k *ℤ (b *ℤ c) +ℤ t) (negℤ-*ℤ b c) ∙ sym (pred_ℤ-*ℤ k (b *ℤ c)))
+    ∙ ap (λ t. k *ℤ (b *ℤ c) +ℤ t) (neg_ℤ-*ℤ b c) ∙ sym (pred_ℤ-*ℤ k (b *ℤ c)))
     a
 
-pub mul-one : (a : ℤ) → a *ℤ pos 1 ≡ a
+pub mul_one : (a : ℤ) → a *ℤ pos 1 ≡ a
 unfolding one
-mul-one a = *ℤ-one a
+mul_one a = *ℤ-one a
 
 abbrev pub ℤR : Ring
 ℤR = record {
@@ -54,13 +54,13 @@ abbrev pub ℤR : Ring
   ι = λ z. z;
   add_assoc = +ℤ_assoc;
   add_comm = +ℤ_comm;
-  add-zero = +ℤ_idr;
-  add-neg = +ℤ_invr;
-  mul_assoc = *ℤ-assoc;
+  add_zero = +ℤ_idr;
+  add_neg = +ℤ_invr;
+  mul_assoc = *ℤ_assoc;
   mul_comm = *ℤ_comm;
-  mul-one = mul-one;
-  add-mul = +ℤ-*ℤ;
-  ι-add = λ m n. refl;
-  ι-mul = λ m n. refl;
-  ι-neg = λ m. refl;
+  mul_one = mul_one;
+  add_mul = +ℤ-*ℤ;
+  ι_add = λ m n. refl;
+  ι_mul = λ m n. refl;
+  ι_neg = λ m. refl;
 }

@@ -14,9 +14,9 @@
 --   chain a b c h k = lin (a ∷ b ∷ c ∷ []) (h & k & none) (search reify depth 20) tt
 --
 -- `lin` proves an inequality from facts: `&` adds one a ⩽ b, `&<` one a ⋖ b, `&≡` an equation, `&ℕ` one of ℕ; `lin<` proves a ⋖ b and
--- `lin-false` an absurdity. It looks for nonnegative multiples of the facts that add up to the goal, with every product of atoms as an
--- atom of its own. So for a goal that is not linear list the products it needs: `nonneg-mul (sub-nonneg h) (sub-nonneg k)`, `nonneg-sq a`.
--- A `?` for `tt` shows what is left over. Some 16 facts in 6 variables reach the checker's limit: split, or give `lin-by` the multiples.
+-- `lin_false` an absurdity. It looks for nonnegative multiples of the facts that add up to the goal, with every product of atoms as an
+-- atom of its own. So for a goal that is not linear list the products it needs: `nonneg_mul (sub_nonneg h) (sub_nonneg k)`, `nonneg_sq a`.
+-- A `?` for `tt` shows what is left over. Some 16 facts in 6 variables reach the checker's limit: split, or give `lin_by` the multiples.
 --
 -- State algebra over plain variables and apply it: at `pos 3` or a field of a record the terms compute away and hide their structure.
 -- `◌≤ℤ◌` binds tighter than `◌+ℤ◌`, so statements are written with its synonym `◌⩽◌`.

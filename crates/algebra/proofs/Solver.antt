@@ -6,7 +6,7 @@ use Prim.Native.Nat.{ℕ, zero, suc, ◌+◌}
 use lib.Dec.{T}
 use lib.IntN.{ℤ, pos, negsuc, ◌+ℤ◌, ◌*ℤ◌}
 use Rattle.algebra.proofs.Test.{and_left, and_right}
-use Rattle.algebra.proofs.Ring.{Ring, zero-add, sub-zero, zero-mul, mul-zero, mul-add, mul_left_comm, swap4, minus_one}
+use Rattle.algebra.proofs.Ring.{Ring, zero_add, sub_zero, zero_mul, mul_zero, mul_add, mul_left_comm, swap4, minus_one}
 
 infixl 6 ◌:+◌ ◌:-◌
 infixl 7 ◌:*◌
@@ -63,11 +63,11 @@ nf (a :- b) = padd (nf a) (scale (negsuc 0) (nf b))
 nf (a :* b) = pmul (nf a) (nf b)
 nf (:neg a) = scale (negsuc 0) (nf a)
 
-abbrev pub isZ : P → Bool
-isZ (con (pos zero)) = true
-isZ (con (pos (suc n))) = false
-isZ (con (negsuc n)) = false
-isZ (hor h t) = isZ h && isZ t
+abbrev pub is_z : P → Bool
+is_z (con (pos zero)) = true
+is_z (con (pos (suc n))) = false
+is_z (con (negsuc n)) = false
+is_z (hor h t) = is_z h && is_z t
 
 -- ---- a polynomial as a list of monomials, for messages: each a coefficient and the variables' exponents
 abbrev pub rev : List ℕ → List ℕ → List ℕ
@@ -92,18 +92,18 @@ verdict true p = Unit {0}
 verdict false p = Left (monos p [] 0)
 
 abbrev pub Zero : P → Type 0
-Zero p = verdict (isZ p) p
+Zero p = verdict (is_z p) p
 
-verdict-is : (b : Bool) (p : P) → verdict b p → T b
-verdict-is true p h = tt
-verdict-is false p h = elim h [ ]
+verdict_is : (b : Bool) (p : P) → verdict b p → T b
+verdict_is true p h = tt
+verdict_is false p h = elim h [ ]
 
-pub zero_is : (p : P) → Zero p → T (isZ p)
-zero_is p h = verdict-is (isZ p) p h
+pub zero_is : (p : P) → Zero p → T (is_z p)
+zero_is p h = verdict_is (is_z p) p h
 
 -- ---- what both denote
 module _ (R : Ring) where
-  open R use {A, add, mul, neg, ι, add_assoc, add_comm, add-zero, mul_assoc, mul-one, add-mul, ι-add, ι-mul}
+  open R use {A, add, mul, neg, ι, add_assoc, add_comm, add_zero, mul_assoc, mul_one, add_mul, ι_add, ι_mul}
 
   abbrev pub nth : List A → ℕ → A
   nth [] i = ι (pos 0)
@@ -124,81 +124,81 @@ module _ (R : Ring) where
   ev (hor h t) (x ∷ ρ) = add (ev h ρ) (mul x (ev t (x ∷ ρ)))
 
   -- ---- the operations on polynomials
-  ev-addc : (c : ℤ) (q : P) (ρ : List A) → ev (addc c q) ρ ≡ add (ι c) (ev q ρ)
-  ev-addc c (con d) ρ = ι-add c d
-  ev-addc c (hor h t) [] = ev-addc c h []
-  ev-addc c (hor h t) (x ∷ ρ) = ap (λ u. add u (mul x (ev t (x ∷ ρ)))) (ev-addc c h ρ) ∙ add_assoc (ι c) (ev h ρ) (mul x (ev t (x ∷ ρ)))
+  ev_addc : (c : ℤ) (q : P) (ρ : List A) → ev (addc c q) ρ ≡ add (ι c) (ev q ρ)
+  ev_addc c (con d) ρ = ι_add c d
+  ev_addc c (hor h t) [] = ev_addc c h []
+  ev_addc c (hor h t) (x ∷ ρ) = ap (λ u. add u (mul x (ev t (x ∷ ρ)))) (ev_addc c h ρ) ∙ add_assoc (ι c) (ev h ρ) (mul x (ev t (x ∷ ρ)))
 
-  ev-add : (p q : P) (ρ : List A) → ev (padd p q) ρ ≡ add (ev p ρ) (ev q ρ)
-  ev-add (con c) q ρ = ev-addc c q ρ
-  ev-add (hor h t) (con d) [] = ev-addc d h [] ∙ add_comm (ι d) (ev h [])
-  ev-add (hor h t) (con d) (x ∷ ρ) = ap (λ u. add u (mul x (ev t (x ∷ ρ)))) (ev-addc d h ρ)
+  ev_add : (p q : P) (ρ : List A) → ev (padd p q) ρ ≡ add (ev p ρ) (ev q ρ)
+  ev_add (con c) q ρ = ev_addc c q ρ
+  ev_add (hor h t) (con d) [] = ev_addc d h [] ∙ add_comm (ι d) (ev h [])
+  ev_add (hor h t) (con d) (x ∷ ρ) = ap (λ u. add u (mul x (ev t (x ∷ ρ)))) (ev_addc d h ρ)
       ∙ add_assoc (ι d) (ev h ρ) (mul x (ev t (x ∷ ρ))) ∙ add_comm (ι d) (add (ev h ρ) (mul x (ev t (x ∷ ρ))))
-  ev-add (hor h t) (hor h' t') [] = ev-add h h' []
-  ev-add (hor h t) (hor h' t') (x ∷ ρ) = ap₂ (λ u w. add u (mul x w)) (ev-add h h' ρ) (ev-add t t' (x ∷ ρ))
-      ∙ ap (λ u. add (add (ev h ρ) (ev h' ρ)) u) (mul-add R x (ev t (x ∷ ρ)) (ev t' (x ∷ ρ)))
+  ev_add (hor h t) (hor h' t') [] = ev_add h h' []
+  ev_add (hor h t) (hor h' t') (x ∷ ρ) = ap₂ (λ u w. add u (mul x w)) (ev_add h h' ρ) (ev_add t t' (x ∷ ρ))
+      ∙ ap (λ u. add (add (ev h ρ) (ev h' ρ)) u) (mul_add R x (ev t (x ∷ ρ)) (ev t' (x ∷ ρ)))
       ∙ swap4 R (ev h ρ) (ev h' ρ) (mul x (ev t (x ∷ ρ))) (mul x (ev t' (x ∷ ρ)))
 
-  times-hor : (a h x t : A) → add (mul a h) (mul x (mul a t)) ≡ mul a (add h (mul x t))
-  times-hor a h x t = ap (λ u. add (mul a h) u) (mul_left_comm R x a t) ∙ sym (mul-add R a h (mul x t))
+  times_hor : (a h x t : A) → add (mul a h) (mul x (mul a t)) ≡ mul a (add h (mul x t))
+  times_hor a h x t = ap (λ u. add (mul a h) u) (mul_left_comm R x a t) ∙ sym (mul_add R a h (mul x t))
 
-  ev-scale : (c : ℤ) (q : P) (ρ : List A) → ev (scale c q) ρ ≡ mul (ι c) (ev q ρ)
-  ev-scale c (con d) ρ = ι-mul c d
-  ev-scale c (hor h t) [] = ev-scale c h []
-  ev-scale c (hor h t) (x ∷ ρ) = ap₂ (λ u w. add u (mul x w)) (ev-scale c h ρ) (ev-scale c t (x ∷ ρ))
-      ∙ times-hor (ι c) (ev h ρ) x (ev t (x ∷ ρ))
+  ev_scale : (c : ℤ) (q : P) (ρ : List A) → ev (scale c q) ρ ≡ mul (ι c) (ev q ρ)
+  ev_scale c (con d) ρ = ι_mul c d
+  ev_scale c (hor h t) [] = ev_scale c h []
+  ev_scale c (hor h t) (x ∷ ρ) = ap₂ (λ u w. add u (mul x w)) (ev_scale c h ρ) (ev_scale c t (x ∷ ρ))
+      ∙ times_hor (ι c) (ev h ρ) x (ev t (x ∷ ρ))
 
-  ev-sc : (c : ℤ) (q : P) (ρ : List A) → ev (sc c q) ρ ≡ mul (ι c) (ev q ρ)
-  ev-sc (pos zero) q ρ = sym (zero-mul R (ev q ρ))
-  ev-sc (pos (suc n)) q ρ = ev-scale (pos (suc n)) q ρ
-  ev-sc (negsuc n) q ρ = ev-scale (negsuc n) q ρ
+  ev_sc : (c : ℤ) (q : P) (ρ : List A) → ev (sc c q) ρ ≡ mul (ι c) (ev q ρ)
+  ev_sc (pos zero) q ρ = sym (zero_mul R (ev q ρ))
+  ev_sc (pos (suc n)) q ρ = ev_scale (pos (suc n)) q ρ
+  ev_sc (negsuc n) q ρ = ev_scale (negsuc n) q ρ
 
-  ev-lift₀ : (f : P → P) (a : A) → ((z : P) → ev (f z) [] ≡ mul a (ev z [])) → (q : P) → ev (lift f q) [] ≡ mul a (ev q [])
-  ev-lift₀ f a hf (con d) = hf (con d)
-  ev-lift₀ f a hf (hor h t) = hf h
+  ev_lift₀ : (f : P → P) (a : A) → ((z : P) → ev (f z) [] ≡ mul a (ev z [])) → (q : P) → ev (lift f q) [] ≡ mul a (ev q [])
+  ev_lift₀ f a hf (con d) = hf (con d)
+  ev_lift₀ f a hf (hor h t) = hf h
 
-  ev-lift : (f : P → P) (a x : A) (ρ : List A) → ((z : P) → ev (f z) ρ ≡ mul a (ev z ρ)) → (q : P) →
+  ev_lift : (f : P → P) (a x : A) (ρ : List A) → ((z : P) → ev (f z) ρ ≡ mul a (ev z ρ)) → (q : P) →
       ev (lift f q) (x ∷ ρ) ≡ mul a (ev q (x ∷ ρ))
-  ev-lift f a x ρ hf (con d) = ap₂ add (hf (con d)) (mul-zero R x) ∙ add-zero (mul a (ι d))
-  ev-lift f a x ρ hf (hor h t) = ap₂ (λ u w. add u (mul x w)) (hf h) (ev-lift f a x ρ hf t) ∙ times-hor a (ev h ρ) x (ev t (x ∷ ρ))
+  ev_lift f a x ρ hf (con d) = ap₂ add (hf (con d)) (mul_zero R x) ∙ add_zero (mul a (ι d))
+  ev_lift f a x ρ hf (hor h t) = ap₂ (λ u w. add u (mul x w)) (hf h) (ev_lift f a x ρ hf t) ∙ times_hor a (ev h ρ) x (ev t (x ∷ ρ))
 
-  ev-mul : (p q : P) (ρ : List A) → ev (pmul p q) ρ ≡ mul (ev p ρ) (ev q ρ)
-  ev-mul (con c) q ρ = ev-sc c q ρ
-  ev-mul (hor h t) q [] = ev-add (lift (λ z. pmul h z) q) (hor (con (pos 0)) (pmul t q)) [] ∙ add-zero (ev (lift (λ z. pmul h z) q) [])
-      ∙ ev-lift₀ (λ z. pmul h z) (ev h []) (λ z. ev-mul h z []) q
-  ev-mul (hor h t) q (x ∷ ρ) = ev-add (lift (λ z. pmul h z) q) (hor (con (pos 0)) (pmul t q)) (x ∷ ρ)
-      ∙ ap₂ add (ev-lift (λ z. pmul h z) (ev h ρ) x ρ (λ z. ev-mul h z ρ) q)
-      (zero-add R (mul x (ev (pmul t q) (x ∷ ρ))) ∙ ap (λ u. mul x u) (ev-mul t q (x ∷ ρ))
-      ∙ sym (mul_assoc x (ev t (x ∷ ρ)) (ev q (x ∷ ρ)))) ∙ sym (add-mul (ev h ρ) (mul x (ev t (x ∷ ρ))) (ev q (x ∷ ρ)))
+  ev_mul : (p q : P) (ρ : List A) → ev (pmul p q) ρ ≡ mul (ev p ρ) (ev q ρ)
+  ev_mul (con c) q ρ = ev_sc c q ρ
+  ev_mul (hor h t) q [] = ev_add (lift (λ z. pmul h z) q) (hor (con (pos 0)) (pmul t q)) [] ∙ add_zero (ev (lift (λ z. pmul h z) q) [])
+      ∙ ev_lift₀ (λ z. pmul h z) (ev h []) (λ z. ev_mul h z []) q
+  ev_mul (hor h t) q (x ∷ ρ) = ev_add (lift (λ z. pmul h z) q) (hor (con (pos 0)) (pmul t q)) (x ∷ ρ)
+      ∙ ap₂ add (ev_lift (λ z. pmul h z) (ev h ρ) x ρ (λ z. ev_mul h z ρ) q)
+      (zero_add R (mul x (ev (pmul t q) (x ∷ ρ))) ∙ ap (λ u. mul x u) (ev_mul t q (x ∷ ρ))
+      ∙ sym (mul_assoc x (ev t (x ∷ ρ)) (ev q (x ∷ ρ)))) ∙ sym (add_mul (ev h ρ) (mul x (ev t (x ∷ ρ))) (ev q (x ∷ ρ)))
 
-  ev-var : (i : ℕ) (ρ : List A) → ev (var i) ρ ≡ nth ρ i
-  ev-var zero [] = refl
-  ev-var zero (x ∷ ρ) = zero-add R (mul x (ι (pos 1))) ∙ mul-one x
-  ev-var (suc i) [] = ev-var i [] ∙ nth-nil i
+  ev_var : (i : ℕ) (ρ : List A) → ev (var i) ρ ≡ nth ρ i
+  ev_var zero [] = refl
+  ev_var zero (x ∷ ρ) = zero_add R (mul x (ι (pos 1))) ∙ mul_one x
+  ev_var (suc i) [] = ev_var i [] ∙ nth_nil i
     where
-      nth-nil : (i : ℕ) → nth [] i ≡ ι (pos 0)
-      nth-nil i = refl
-  ev-var (suc i) (x ∷ ρ) = ap₂ add (ev-var i ρ) (mul-zero R x) ∙ add-zero (nth ρ i)
+      nth_nil : (i : ℕ) → nth [] i ≡ ι (pos 0)
+      nth_nil i = refl
+  ev_var (suc i) (x ∷ ρ) = ap₂ add (ev_var i ρ) (mul_zero R x) ∙ add_zero (nth ρ i)
 
-  ev-neg : (p : P) (ρ : List A) → ev (scale (negsuc 0) p) ρ ≡ neg (ev p ρ)
-  ev-neg p ρ = ev-scale (negsuc 0) p ρ ∙ minus_one R (ev p ρ)
+  ev_neg : (p : P) (ρ : List A) → ev (scale (negsuc 0) p) ρ ≡ neg (ev p ρ)
+  ev_neg p ρ = ev_scale (negsuc 0) p ρ ∙ minus_one R (ev p ρ)
 
   pub sound : (e : E) (ρ : List A) → den e ρ ≡ ev (nf e) ρ
-  sound (X i) ρ = sym (ev-var i ρ)
+  sound (X i) ρ = sym (ev_var i ρ)
   sound (K c) ρ = refl
-  sound (a :+ b) ρ = ap₂ add (sound a ρ) (sound b ρ) ∙ sym (ev-add (nf a) (nf b) ρ)
-  sound (a :- b) ρ = ap₂ add (sound a ρ) (ap neg (sound b ρ) ∙ sym (ev-neg (nf b) ρ)) ∙ sym (ev-add (nf a) (scale (negsuc 0) (nf b)) ρ)
-  sound (a :* b) ρ = ap₂ mul (sound a ρ) (sound b ρ) ∙ sym (ev-mul (nf a) (nf b) ρ)
-  sound (:neg a) ρ = ap neg (sound a ρ) ∙ sym (ev-neg (nf a) ρ)
+  sound (a :+ b) ρ = ap₂ add (sound a ρ) (sound b ρ) ∙ sym (ev_add (nf a) (nf b) ρ)
+  sound (a :- b) ρ = ap₂ add (sound a ρ) (ap neg (sound b ρ) ∙ sym (ev_neg (nf b) ρ)) ∙ sym (ev_add (nf a) (scale (negsuc 0) (nf b)) ρ)
+  sound (a :* b) ρ = ap₂ mul (sound a ρ) (sound b ρ) ∙ sym (ev_mul (nf a) (nf b) ρ)
+  sound (:neg a) ρ = ap neg (sound a ρ) ∙ sym (ev_neg (nf a) ρ)
 
-  pub ev-isZ : (p : P) (ρ : List A) → T (isZ p) → ev p ρ ≡ ι (pos 0)
-  ev-isZ (con (pos zero)) ρ h = refl
-  ev-isZ (con (pos (suc n))) ρ h = absurd h
-  ev-isZ (con (negsuc n)) ρ h = absurd h
-  ev-isZ (hor h t) [] p = ev-isZ h [] (and_left (isZ h) (isZ t) p)
-  ev-isZ (hor h t) (x ∷ ρ) p = ap₂ (λ u w. add u (mul x w)) (ev-isZ h ρ (and_left (isZ h) (isZ t) p))
-      (ev-isZ t (x ∷ ρ) (and_right (isZ h) (isZ t) p)) ∙ ap (λ u. add (ι (pos 0)) u) (mul-zero R x) ∙ add-zero (ι (pos 0))
+  pub ev_is_z : (p : P) (ρ : List A) → T (is_z p) → ev p ρ ≡ ι (pos 0)
+  ev_is_z (con (pos zero)) ρ h = refl
+  ev_is_z (con (pos (suc n))) ρ h = absurd h
+  ev_is_z (con (negsuc n)) ρ h = absurd h
+  ev_is_z (hor h t) [] p = ev_is_z h [] (and_left (is_z h) (is_z t) p)
+  ev_is_z (hor h t) (x ∷ ρ) p = ap₂ (λ u w. add u (mul x w)) (ev_is_z h ρ (and_left (is_z h) (is_z t) p))
+      (ev_is_z t (x ∷ ρ) (and_right (is_z h) (is_z t) p)) ∙ ap (λ u. add (ι (pos 0)) u) (mul_zero R x) ∙ add_zero (ι (pos 0))
 
   -- THE THEOREM: where the difference of two expressions has the normal form nought, they denote the same
   pub ring : (ρ : List A) (a b : E) → Zero (nf (a :- b)) → den a ρ ≡ den b ρ
-  ring ρ a b h = sub-zero R (den a ρ) (den b ρ) (sound (a :- b) ρ ∙ ev-isZ (nf (a :- b)) ρ (zero_is (nf (a :- b)) h))
+  ring ρ a b h = sub_zero R (den a ρ) (den b ρ) (sound (a :- b) ρ ∙ ev_is_z (nf (a :- b)) ρ (zero_is (nf (a :- b)) h))

@@ -32,9 +32,9 @@ abbrev pub all : ℕ → (ℕ → Bool) → Bool
 all zero f = true
 all (suc n) f = all n f && f n
 
-pub all-at : (n : ℕ) (f : ℕ → Bool) → T (all n f) → (i : ℕ) → i < n → T (f i)
-all-at zero f t i h = absurd (not-suc-le-zero h)
-all-at (suc n) f t i h = ⊎_elim
+pub all_at : (n : ℕ) (f : ℕ → Bool) → T (all n f) → (i : ℕ) → i < n → T (f i)
+all_at zero f t i h = absurd (not-suc-le-zero h)
+all_at (suc n) f t i h = ⊎_elim
     (λ e. subst (λ j. T (f j)) (sym e) (and_right (all n f) (f n) t))
-    (λ l. all-at n f (and_left (all n f) (f n) t) i l)
+    (λ l. all_at n f (and_left (all n f) (f n) t) i l)
     (eq-or-lt_of_le (le_of_suc-le-suc h))

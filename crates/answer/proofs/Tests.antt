@@ -7,6 +7,6 @@ use Rattle.answer.specs.declared.Answer.TheVariants.{Refused}
 use Rattle.answer.specs.Refusal.{unless}
 
 -- what holds of the refusal, and of the answer where the test holds
-pub unless-keeps : (P : Answer → Type 0) (b : Bool) (r : Refusal) (a : Answer) → P (Refused r) → (b ≡ true → P a) → P (unless b r a)
-unless-keeps P true r a h k = k refl
-unless-keeps P false r a h k = h
+pub unless_keeps : (P : Answer → Type 0) (b : Bool) (r : Refusal) (a : Answer) → P (Refused r) → (b ≡ true → P a) → P (unless b r a)
+unless_keeps P true r a h k = k refl
+unless_keeps P false r a h k = h

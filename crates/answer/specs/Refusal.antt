@@ -6,11 +6,11 @@ use Rattle.answer.specs.declared.Answer.{Answer}
 use Rattle.answer.specs.declared.Answer.TheVariants.{Refused}
 
 -- the number of each refusal
-abbrev pub refusalNumber : Refusal → ℤ
-refusalNumber Steps = pos 1
-refusalNumber Exponent = pos 2
-refusalNumber Part = pos 3
-refusalNumber Zero = pos 4
+abbrev pub refusal_number : Refusal → ℤ
+refusal_number Steps = pos 1
+refusal_number Exponent = pos 2
+refusal_number Part = pos 3
+refusal_number Zero = pos 4
 
 -- "Each is given when its condition holds and none earlier does": turned away with r, unless the test holds
 abbrev pub unless : Bool → Refusal → Answer → Answer

@@ -1,7 +1,7 @@
 // What EXP and LOG answer: figures or a refusal, and the eight numbers of the record of them (01; 02, E7).
 ghost use Rattle.std.specs.Prelude.{◌≡◌};
-ghost use Rattle.answer.specs.Refusal.{refusalNumber};
-ghost use Rattle.answer.specs.Record.{numbers, recordOf};
+ghost use Rattle.answer.specs.Refusal.{refusal_number};
+ghost use Rattle.answer.specs.Record.{numbers, record_of};
 
 use point::Point;
 
@@ -38,7 +38,7 @@ pub enum Answer {
 
 impl Refusal {
     pub fn number(self) -> i64
-        ensures { result ≡ refusalNumber self }
+        ensures { result ≡ refusal_number self }
     {
         match self {
             Refusal::Steps => 1,
@@ -76,7 +76,7 @@ fn numbers(refusal: i64, f: Figures) -> [i64; 8]
 
 impl Answer {
     pub fn record(self) -> [i64; 8]
-        ensures { result ≡ recordOf self }
+        ensures { result ≡ record_of self }
     {
         match self {
             Answer::Answered(f) => numbers(0, f),

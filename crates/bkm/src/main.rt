@@ -1,7 +1,7 @@
 // Answers a sheet: standard input to standard output.
 ghost use Rattle.std.specs.Prelude.{true, ◌≡◌, ◌≤◌, length};
-ghost use Rattle.text.specs.Answer.{answer-room};
-ghost use Rattle.stream.specs.Machine.{cut, placeAfter};
+ghost use Rattle.text.specs.Answer.{answer_room};
+ghost use Rattle.stream.specs.Machine.{cut, place_after};
 ghost use Rattle.stream.specs.Sheet.{machine, place_of};
 
 use libc::{STDERR_FILENO, STDIN_FILENO, STDOUT_FILENO};
@@ -25,8 +25,8 @@ fn write_out(bytes: &[u8]) -> bool {
 
 // Feeds all of a block and writes its answers, up to the first that cannot be written.
 fn answer_block(place: Place, block: &[u8], out: &mut [u8]) -> Answered
-    requires { answer-room ≤ length out.old }
-    ensures { result.written ≡ true → cut (place_of result.place) ≡ cut (placeAfter machine (place_of place) block.now) }
+    requires { answer_room ≤ length out.old }
+    ensures { result.written ≡ true → cut (place_of result.place) ≡ cut (place_after machine (place_of place) block.now) }
 {
     let mut here = place;
     let mut at: usize = 0;

@@ -12,20 +12,20 @@ use Rattle.algebra.specs.Gauss.{gi}
 use Rattle.algebra.specs.Order.{◌⩽◌}
 use Rattle.algebra.proofs.Test.{either}
 use Rattle.algebra.proofs.Reify.{reify}
-use Rattle.algebra.proofs.Order.{pos-inj-le}
+use Rattle.algebra.proofs.Order.{pos_inj_le}
 use Rattle.algebra.proofs.Linear.{lin, ◌&◌, none}
 use Rattle.word.proofs.Fits.{back}
-use Rattle.word.proofs.Compare.{ltZ-false, between-true}
-use Rattle.point.specs.Limits.{inSteps}
+use Rattle.word.proofs.Compare.{lt_z_false, between_true}
+use Rattle.point.specs.Limits.{in_steps}
 use Rattle.answer.specs.declared.Figures.{Figures}
 use Rattle.answer.specs.declared.Refusal.{Refusal}
 use Rattle.answer.specs.declared.Answer.{Answer}
 use Rattle.answer.specs.declared.Answer.TheVariants.{Answered, Refused}
 use Rattle.table_numbers.specs.Numbers48.{constants48}
-use Rattle.table_numbers.specs.Table.{stepTable, reciprocalTable}
-use Rattle.exponential.specs.Answer.{expAnswer}
+use Rattle.table_numbers.specs.Table.{step_table, reciprocal_table}
+use Rattle.exponential.specs.Answer.{exp_answer}
 use Rattle.exponential.proofs.Close.{answer_keeps as exp-keeps}
-use Rattle.logarithm.specs.Answer.{logAnswer}
+use Rattle.logarithm.specs.Answer.{log_answer}
 use Rattle.logarithm.proofs.Close.{answer_keeps as log-keeps}
 use Rattle.book.specs.declared.Book.{Book}
 use Rattle.book.specs.declared.Institute.{Institute}
@@ -34,30 +34,30 @@ use Rattle.book.specs.declared.Caller.TheVariants.{Is, Neither}
 use Rattle.book.specs.declared.Reply.TheVariants.{Given, Denied}
 use Rattle.book.specs.declared.Settled.{Settled}
 use Rattle.book.specs.Book.{balance, charged}
-use Rattle.book.specs.Call.{Operation, Exp, Log, Call, callerOf, answerTo, cost, settled, paid, charge, outcomeFor, outcome, OfAnswer}
+use Rattle.book.specs.Call.{Operation, Exp, Log, Call, caller_of, answer_to, cost, settled, paid, charge, outcome_for, outcome, OfAnswer}
 
 -- ---- an answered call costs a step at least
 abbrev CostOf : ℤ → Answer → Type 0
 CostOf c (Answered f) = pos 1 ⩽ c
 CostOf c (Refused r) = Unit {0}
 
-cost-of : (o : Operation) → CostOf (cost o) (answerTo o)
-unfolding expAnswer logAnswer inSteps
-cost-of (Exp n ex ey sx sy) = exp-keeps 48 stepTable constants48 n (gi ex ey) (gi sx sy) (CostOf n) (λ r. tt) (λ a. (between-true a.steps).0)
-cost-of (Log n x y) = log-keeps 48 stepTable reciprocalTable n (gi x y) (CostOf (n -ℤ pos 2)) (λ r. tt)
-    (λ a. lin (n ∷ []) ((between-true a.steps).0 & none) (search reify depth 20) tt)
+cost_of : (o : Operation) → CostOf (cost o) (answer_to o)
+unfolding exp_answer log_answer in_steps
+cost_of (Exp n ex ey sx sy) = exp-keeps 48 step_table constants48 n (gi ex ey) (gi sx sy) (CostOf n) (λ r. tt) (λ a. (between_true a.steps).0)
+cost_of (Log n x y) = log-keeps 48 step_table reciprocal_table n (gi x y) (CostOf (n -ℤ pos 2)) (λ r. tt)
+    (λ a. lin (n ∷ []) ((between_true a.steps).0 & none) (search reify depth 20) tt)
 
-pub costs : (o : Operation) {f : Figures} → answerTo o ≡ Answered f → pos 1 ⩽ cost o
-costs o e = subst (CostOf (cost o)) e (cost-of o)
+pub costs : (o : Operation) {f : Figures} → answer_to o ≡ Answered f → pos 1 ⩽ cost o
+costs o e = subst (CostOf (cost o)) e (cost_of o)
 
 -- ---- what is left of a number that covers another fits where the number does
-pub left-fits : {b c : ℤ} → SFits w64 b → pos 0 ⩽ c → c ⩽ b → SFits w64 (b -ℤ c)
-left-fits {b} {c} f h k = below (b -ℤ c) b f
+pub left_fits : {b c : ℤ} → SFits w64 b → pos 0 ⩽ c → c ⩽ b → SFits w64 (b -ℤ c)
+left_fits {b} {c} f h k = below (b -ℤ c) b f
     (lin (b ∷ c ∷ []) (k & none) (search reify depth 20) tt)
     (lin (b ∷ c ∷ []) (h & none) (search reify depth 20) tt)
   where
     below : (x b : ℤ) → SFits w64 b → pos 0 ⩽ x → x ⩽ b → SFits w64 x
-    below (pos m) (pos n) f h k = record { sfits = omega (arith, f.sfits, pos-inj-le k) }
+    below (pos m) (pos n) f h k = record { sfits = omega (arith, f.sfits, pos_inj_le k) }
     below (pos m) (negsuc n) f h k = absurd k.le
     below (negsuc m) b f h k = absurd h.le
 
@@ -66,10 +66,10 @@ pub left_back : {x y x' y' : ℤ} → x' ≡ x → y' ≡ y → SFits w64 (x -�
 left_back e d f = ap₂ (λ x y. to_z w64 (of_z w64 (x -ℤ y))) e d ∙ back f
 
 -- ---- who calls
-pub no-caller : (n : ℤ) → (n ≡ pos 1 → ⊥) → (n ≡ pos 2 → ⊥) → Neither ≡ callerOf n
-unfolding callerOf
-no-caller (negsuc n) h k = refl
-no-caller (pos n) h k = rw (ne_eqb n 1 (λ e. h (ap pos e)), ne_eqb n 2 (λ e. k (ap pos e)))
+pub no_caller : (n : ℤ) → (n ≡ pos 1 → ⊥) → (n ≡ pos 2 → ⊥) → Neither ≡ caller_of n
+unfolding caller_of
+no_caller (negsuc n) h k = refl
+no_caller (pos n) h k = rw (ne_eqb n 1 (λ e. h (ap pos e)), ne_eqb n 2 (λ e. k (ap pos e)))
 
 -- ---- what is paid and the outcome by their cases, as the code has them
 module _ (who : Institute) (n : ℤ) (f : Figures) (b : Book) where
@@ -85,44 +85,44 @@ module _ (k : ℤ) (o : Operation) (b : Book) where
   abbrev asked : Call
   asked = record { caller = k; operation = o }
 
-  pub denied : callerOf k ≡ Neither → settled Denied b ≡ outcome asked b
+  pub denied : caller_of k ≡ Neither → settled Denied b ≡ outcome asked b
   unfolding outcome
   denied e = rw e
 
-  pub refused : {who : Institute} {r : Refusal} → callerOf k ≡ Is who → answerTo o ≡ Refused r → settled (Given (Refused r)) b ≡ outcome asked b
+  pub refused : {who : Institute} {r : Refusal} → caller_of k ≡ Is who → answer_to o ≡ Refused r → settled (Given (Refused r)) b ≡ outcome asked b
   unfolding outcome
   refused e a = rw (e, a)
 
-  pub answered : {who : Institute} {f : Figures} → callerOf k ≡ Is who → answerTo o ≡ Answered f → paid who (cost o) f b ≡ outcome asked b
+  pub answered : {who : Institute} {f : Figures} → caller_of k ≡ Is who → answer_to o ≡ Answered f → paid who (cost o) f b ≡ outcome asked b
   unfolding outcome
   answered e a = rw (e, a)
 
 -- ---- what holds of a call that is refused, denied or paid for holds of every call by an institute
-pub charge-keeps : (P : Settled → Type 0) (p : Institute) (o : Operation) (b : Book) →
-    ((r : Refusal) → answerTo o ≡ Refused r → P (settled (Given (Refused r)) b)) →
+pub charge_keeps : (P : Settled → Type 0) (p : Institute) (o : Operation) (b : Book) →
+    ((r : Refusal) → answer_to o ≡ Refused r → P (settled (Given (Refused r)) b)) →
     P (settled Denied b) →
-    ((f : Figures) → answerTo o ≡ Answered f → cost o ⩽ balance p b → P (settled (Given (Answered f)) (charged p (cost o) b))) →
-    P (charge p (cost o) (answerTo o) b)
+    ((f : Figures) → answer_to o ≡ Answered f → cost o ⩽ balance p b → P (settled (Given (Answered f)) (charged p (cost o) b))) →
+    P (charge p (cost o) (answer_to o) b)
 unfolding paid
-charge-keeps P p o b free short paying = go (answerTo o) refl
+charge_keeps P p o b free short paying = go (answer_to o) refl
   where
-    go : (a : Answer) → answerTo o ≡ a → P (charge p (cost o) a b)
+    go : (a : Answer) → answer_to o ≡ a → P (charge p (cost o) a b)
     go (Refused r) e = free r e
-    go (Answered f) e = either (lt_z (balance p b) (cost o)) (λ t. rw t short) (λ t. rw t (paying f e (ltZ-false t)))
+    go (Answered f) e = either (lt_z (balance p b) (cost o)) (λ t. rw t short) (λ t. rw t (paying f e (lt_z_false t)))
 
 -- a reply gives just what EXP or LOG answers, or nothing
-pub reply-says : (P : Answer → Type 0) (c : Call) (b : Book) → P (answerTo c.operation) → OfAnswer P (outcome c b).reply
+pub reply_says : (P : Answer → Type 0) (c : Call) (b : Book) → P (answer_to c.operation) → OfAnswer P (outcome c b).reply
 unfolding outcome
-reply-says P c b h = go (callerOf c.caller) c.operation h
+reply_says P c b h = go (caller_of c.caller) c.operation h
   where
-    go : (k : Caller) (o : Operation) → P (answerTo o) → OfAnswer P (outcomeFor k o b).reply
+    go : (k : Caller) (o : Operation) → P (answer_to o) → OfAnswer P (outcome_for k o b).reply
     go Neither o h = tt
-    go (Is who) o h = charge-keeps (λ s. OfAnswer P s.reply) who o b (λ r e. subst P e h) tt (λ f e l. subst P e h)
+    go (Is who) o h = charge_keeps (λ s. OfAnswer P s.reply) who o b (λ r e. subst P e h) tt (λ f e l. subst P e h)
 
 -- so what equals the outcome meets the three clauses of the call
-pub meets : (c : Call) (b : Book) (P Q : Answer → Type 0) → P (answerTo c.operation) → Q (answerTo c.operation) →
+pub meets : (c : Call) (b : Book) (P Q : Answer → Type 0) → P (answer_to c.operation) → Q (answer_to c.operation) →
     {s : Settled} → s ≡ outcome c b → (s ≡ outcome c b) × (OfAnswer P s.reply × OfAnswer Q s.reply)
 meets c b P Q p q e = (
   e,
-  (subst (λ s. OfAnswer P s.reply) (sym e) (reply-says P c b p), subst (λ s. OfAnswer Q s.reply) (sym e) (reply-says Q c b q)),
+  (subst (λ s. OfAnswer P s.reply) (sym e) (reply_says P c b p), subst (λ s. OfAnswer Q s.reply) (sym e) (reply_says Q c b q)),
 )

@@ -22,15 +22,15 @@ charged Second cost b = balances b.first (b.second -ℤ cost)
 
 -- ---- the opening
 -- "Refused: 10"
-abbrev pub refusal-number : ℤ
-refusal-number = pos 10
+abbrev pub refusal_number_lem : ℤ
+refusal_number_lem = pos 10
 
 -- "an allowance of 0 to 1,000,000 steps"
-abbrev pub isAllowance : ℤ → Bool
-isAllowance a = between (pos 0) (pos 1000000) a
+abbrev pub is_allowance : ℤ → Bool
+is_allowance a = between (pos 0) (pos 1000000) a
 
 -- "10, for an allowance out of range at opening"; "a book refused at opening has two zero balances"
 unfoldable pub opened : ℤ → ℤ → Opening
-opened first second = cond (isAllowance first && isAllowance second)
+opened first second = cond (is_allowance first && is_allowance second)
     (record { refusal = pos 0; book = balances first second })
-    (record { refusal = refusal-number; book = balances (pos 0) (pos 0) })
+    (record { refusal = refusal_number_lem; book = balances (pos 0) (pos 0) })

@@ -5,9 +5,9 @@ use Rattle.std.specs.Int.Signed.{lt_z}
 use Rattle.answer.specs.declared.Figures.{Figures}
 use Rattle.answer.specs.declared.Answer.{Answer}
 use Rattle.answer.specs.declared.Answer.TheVariants.{Answered, Refused}
-use Rattle.answer.specs.Record.{numbers, no-figures, recordOf}
-use Rattle.exponential.specs.Answer.{expAnswer}
-use Rattle.logarithm.specs.Answer.{logAnswer}
+use Rattle.answer.specs.Record.{numbers, no_figures, record_of}
+use Rattle.exponential.specs.Answer.{exp_answer}
+use Rattle.logarithm.specs.Answer.{log_answer}
 use Rattle.book.specs.declared.Book.{Book}
 use Rattle.book.specs.declared.Institute.{Institute}
 use Rattle.book.specs.declared.Institute.TheVariants.{First, Second}
@@ -16,7 +16,7 @@ use Rattle.book.specs.declared.Caller.TheVariants.{Is, Neither}
 use Rattle.book.specs.declared.Reply.{Reply}
 use Rattle.book.specs.declared.Reply.TheVariants.{Given, Denied}
 use Rattle.book.specs.declared.Settled.{Settled}
-use Rattle.book.specs.Book.{balance, charged, refusal-number}
+use Rattle.book.specs.Book.{balance, charged, refusal_number_lem}
 
 -- ---- a call
 pub data Operation : Type 0 where
@@ -27,21 +27,21 @@ pub record Call : Type 0 where
   pub caller : ℤ
   pub operation : Operation
 
-abbrev pub expBy : ℤ → ℤ → ℤ → ℤ → ℤ → ℤ → Call
-expBy caller n ex ey sx sy = record { caller = caller; operation = Exp n ex ey sx sy }
+abbrev pub exp_by : ℤ → ℤ → ℤ → ℤ → ℤ → ℤ → Call
+exp_by caller n ex ey sx sy = record { caller = caller; operation = Exp n ex ey sx sy }
 
-abbrev pub logBy : ℤ → ℤ → ℤ → ℤ → Call
-logBy caller n x y = record { caller = caller; operation = Log n x y }
+abbrev pub log_by : ℤ → ℤ → ℤ → ℤ → Call
+log_by caller n x y = record { caller = caller; operation = Log n x y }
 
 -- "number 1 for ours and 2 for the sister's"
-unfoldable pub callerOf : ℤ → Caller
-callerOf (pos n) = cond (eqb n 1) (Is First) (cond (eqb n 2) (Is Second) Neither)
-callerOf (negsuc n) = Neither
+unfoldable pub caller_of : ℤ → Caller
+caller_of (pos n) = cond (eqb n 1) (Is First) (cond (eqb n 2) (Is Second) Neither)
+caller_of (negsuc n) = Neither
 
 -- "with the same tables": what EXP and LOG answer to anyone
-abbrev pub answerTo : Operation → Answer
-answerTo (Exp n ex ey sx sy) = expAnswer n ex ey sx sy
-answerTo (Log n x y) = logAnswer n x y
+abbrev pub answer_to : Operation → Answer
+answer_to (Exp n ex ey sx sy) = exp_answer n ex ey sx sy
+answer_to (Log n x y) = log_answer n x y
 
 -- "An answered EXP costs N, an answered LOG N − 2"
 abbrev pub cost : Operation → ℤ
@@ -62,17 +62,17 @@ charge who cost (Answered f) b = paid who cost f b
 charge who cost (Refused r) b = settled (Given (Refused r)) b
 
 -- "10 .. for a caller that is neither institute (before all else in a call)"
-abbrev pub outcomeFor : Caller → Operation → Book → Settled
-outcomeFor (Is who) o b = charge who (cost o) (answerTo o) b
-outcomeFor Neither o b = settled Denied b
+abbrev pub outcome_for : Caller → Operation → Book → Settled
+outcome_for (Is who) o b = charge who (cost o) (answer_to o) b
+outcome_for Neither o b = settled Denied b
 
 unfoldable pub outcome : Call → Book → Settled
-outcome c b = outcomeFor (callerOf c.caller) c.operation b
+outcome c b = outcome_for (caller_of c.caller) c.operation b
 
 -- "the answer record": that of EXP or LOG, or 10 and zeros
-unfoldable pub replyRecord : Reply → List ℤ
-replyRecord (Given a) = recordOf a
-replyRecord Denied = numbers refusal-number no-figures
+unfoldable pub reply_record : Reply → List ℤ
+reply_record (Given a) = record_of a
+reply_record Denied = numbers refusal_number_lem no_figures
 
 -- what is said of an answer, of a reply that gives one
 abbrev pub OfAnswer : (Answer → Type 0) → Reply → Type 0

@@ -11,7 +11,7 @@ use Rattle.book.specs.declared.Caller.TheVariants.{Is, Neither}
 use Rattle.book.specs.declared.Reply.{Reply}
 use Rattle.book.specs.declared.Reply.TheVariants.{Given, Denied}
 use Rattle.book.specs.Book.{balance, opened}
-use Rattle.book.specs.Call.{Operation, Call, callerOf, cost, outcome}
+use Rattle.book.specs.Call.{Operation, Call, caller_of, cost, outcome}
 
 -- ---- a run of calls from a book on: each call with what it was replied
 pub record Entry : Type 0 where
@@ -23,9 +23,9 @@ run [] b = []
 run (c ∷ cs) b = record { call = c; reply = (outcome c b).reply } ∷ run cs (outcome c b).book
 
 -- the book that the last call gave back
-unfoldable pub bookAfter : List Call → Book → Book
-bookAfter [] b = b
-bookAfter (c ∷ cs) b = bookAfter cs (outcome c b).book
+unfoldable pub book_after : List Call → Book → Book
+book_after [] b = b
+book_after (c ∷ cs) b = book_after cs (outcome c b).book
 
 -- ---- what of it is an institute's own, in order
 abbrev pub same : Institute → Institute → Bool
@@ -34,53 +34,53 @@ same First Second = false
 same Second First = false
 same Second Second = true
 
-abbrev pub isBy : Institute → Caller → Bool
-isBy p (Is q) = same p q
-isBy p Neither = false
+abbrev pub is_by : Institute → Caller → Bool
+is_by p (Is q) = same p q
+is_by p Neither = false
 
 abbrev pub own : Institute → Call → Bool
-own p c = isBy p (callerOf c.caller)
+own p c = is_by p (caller_of c.caller)
 
 unfoldable pub calls_of : Institute → List Call → List Call
 calls_of p [] = []
 calls_of p (c ∷ cs) = cond (own p c) (c ∷ calls_of p cs) (calls_of p cs)
 
-unfoldable pub entriesOf : Institute → List Entry → List Entry
-entriesOf p [] = []
-entriesOf p (e ∷ es) = cond (own p e.call) (e ∷ entriesOf p es) (entriesOf p es)
+unfoldable pub entries_of : Institute → List Entry → List Entry
+entries_of p [] = []
+entries_of p (e ∷ es) = cond (own p e.call) (e ∷ entries_of p es) (entries_of p es)
 
 -- ---- "the costs of its answered calls"
-abbrev pub isAnswered : Reply → Bool
-isAnswered (Given (Answered f)) = true
-isAnswered (Given (Refused r)) = false
-isAnswered Denied = false
+abbrev pub is_answered : Reply → Bool
+is_answered (Given (Answered f)) = true
+is_answered (Given (Refused r)) = false
+is_answered Denied = false
 
-abbrev pub costIn : Reply → Operation → ℤ
-costIn r o = cond (isAnswered r) (cost o) (pos 0)
+abbrev pub cost_in : Reply → Operation → ℤ
+cost_in r o = cond (is_answered r) (cost o) (pos 0)
 
 unfoldable pub total : List Entry → ℤ
 total [] = pos 0
-total (e ∷ es) = costIn e.reply e.call.operation +ℤ total es
+total (e ∷ es) = cost_in e.reply e.call.operation +ℤ total es
 
 -- ---- "For each party, what it started with equals what it has left plus the costs of its answered calls in the run"
 abbrev pub Conserved : Institute → List Call → Book → Type 0
-Conserved p cs b = balance p b ≡ balance p (bookAfter cs b) +ℤ total (entriesOf p (run cs b))
+Conserved p cs b = balance p b ≡ balance p (book_after cs b) +ℤ total (entries_of p (run cs b))
 
 -- from the opening on no balance goes below 0 or above what the book was opened with
 pub record InAllowance (p : Institute) (first second : ℤ) (cs : List Call) : Type 0 where
-  pub low : pos 0 ⩽ balance p (bookAfter cs (opened first second).book)
-  pub high : balance p (bookAfter cs (opened first second).book) ⩽ balance p (opened first second).book
+  pub low : pos 0 ⩽ balance p (book_after cs (opened first second).book)
+  pub high : balance p (book_after cs (opened first second).book) ⩽ balance p (opened first second).book
 
 -- ---- "A refused call leaves the book as it found it"
 abbrev pub LeftAlone : Call → Book → Type 0
-LeftAlone c b = isAnswered (outcome c b).reply ≡ false → (outcome c b).book ≡ b
+LeftAlone c b = is_answered (outcome c b).reply ≡ false → (outcome c b).book ≡ b
 
 -- ---- "Change one institute's calls in any manner, the opening and the order of the other's own calls kept": p is the other, and cs and ds
 -- are two runs with the same calls by p in the same order; of the opening only p's balance need be kept
 -- "the other's answers, refusals and balance stay equal"
 pub record Alike (p : Institute) (cs : List Call) (b : Book) (ds : List Call) (d : Book) : Type 0 where
-  pub replies : entriesOf p (run cs b) ≡ entriesOf p (run ds d)
-  pub balances : balance p (bookAfter cs b) ≡ balance p (bookAfter ds d)
+  pub replies : entries_of p (run cs b) ≡ entries_of p (run ds d)
+  pub balances : balance p (book_after cs b) ≡ balance p (book_after ds d)
 
 abbrev pub Undisturbed : Institute → Type 0
 Undisturbed p = (cs ds : List Call) (b d : Book) → calls_of p cs ≡ calls_of p ds → balance p b ≡ balance p d → Alike p cs b ds d

@@ -6,7 +6,7 @@ ghost use Rattle.answer.specs.Remainder.{RemainderBelow};
 ghost use Rattle.exponential.specs.Answer.{Close as ExpClose};
 ghost use Rattle.logarithm.specs.Answer.{Close as LogClose};
 ghost use Rattle.book.specs.Book.{balance, charged, opened};
-ghost use Rattle.book.specs.Call.{callerOf, paid, outcome, expBy, logBy, OfAnswer, replyRecord};
+ghost use Rattle.book.specs.Call.{caller_of, paid, outcome, exp_by, log_by, OfAnswer, reply_record};
 ghost use Rattle.book.specs.Code.{Covered};
 
 use answer::{Answer, Figures};
@@ -110,7 +110,7 @@ fn charged(book: Book, who: Institute, cost: i64) -> Book
 
 // The institute of a number.
 fn caller_of(number: i64) -> Caller
-    ensures { result ≡ callerOf number }
+    ensures { result ≡ caller_of number }
 {
     if number == 1 {
         return Caller::Is(Institute::First);
@@ -140,7 +140,7 @@ fn pay(book: Book, who: Institute, cost: i64, figures: Figures) -> Settled
 
 // EXP for the institute of a number: n steps are charged.
 pub fn exp(book: Book, caller: i64, n: i64, exponent: Point, start: Point) -> Settled
-    ensures outcome { result ≡ outcome (expBy caller n exponent.x exponent.y start.x start.y) book }
+    ensures outcome { result ≡ outcome (exp_by caller n exponent.x exponent.y start.x start.y) book }
     ensures close { OfAnswer (ExpClose n exponent.x exponent.y start.x start.y) result.reply }
     ensures remainder { OfAnswer (RemainderBelow 48 n) result.reply }
 {
@@ -163,7 +163,7 @@ pub fn exp(book: Book, caller: i64, n: i64, exponent: Point, start: Point) -> Se
 
 // LOG for the institute of a number: its steps begin with the third, and n - 2 are charged.
 pub fn log(book: Book, caller: i64, n: i64, p: Point) -> Settled
-    ensures outcome { result ≡ outcome (logBy caller n p.x p.y) book }
+    ensures outcome { result ≡ outcome (log_by caller n p.x p.y) book }
     ensures close { OfAnswer (LogClose n p.x p.y) result.reply }
     ensures remainder { OfAnswer (RemainderBelow 48 n) result.reply }
 {
@@ -187,7 +187,7 @@ pub fn log(book: Book, caller: i64, n: i64, p: Point) -> Settled
 impl Reply {
     // The record of eight numbers.
     pub fn record(self) -> [i64; 8]
-        ensures { result ≡ replyRecord self }
+        ensures { result ≡ reply_record self }
     {
         match self {
             Reply::Given(a) => a.record(),

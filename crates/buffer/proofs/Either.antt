@@ -11,7 +11,7 @@ pub by_way {ℓ ℓ'} : {A : Type ℓ} {B : Type ℓ'} {C : Type 0} → A ⊎ B 
 by_way w f g = ⊎_elim f g w
 
 -- two tests come out alike where their sides are as far apart
-pub leb-same : (a b c d : ℕ) → a + d ≡ c + b → leb a b ≡ leb c d
-leb-same a b c d h =
+pub leb_same : (a b c d : ℕ) → a + d ≡ c + b → leb a b ≡ leb c d
+leb_same a b c d h =
     either (leb a b) (λ e. e ∙ sym (le-leb c d (omega (arith, leb-true a b e))))
     (λ e. e ∙ sym (lt-leb c d (omega (arith, leb-false a b e))))

@@ -30,9 +30,9 @@ pub written : {b : List ℕ} {at : ℕ} {xs b' : List ℕ} {end : ℕ} → at + 
 written {b} {at} {xs} h p = rw (fits_whole b at xs h) (p.after, p.bytes)
 
 -- where there is room it is a plain write
-pub fitted-put : {b : List ℕ} {at : ℕ} {xs b' : List ℕ} {end : ℕ} → at + length xs ≤ length b → Fitted b at xs b' end → Put b at xs b' end
-fitted-put {b} {at} {xs} h p = let q = rw (fits_whole b at xs h) at p in record { bytes = q.1; after = q.0 }
+pub fitted_put : {b : List ℕ} {at : ℕ} {xs b' : List ℕ} {end : ℕ} → at + length xs ≤ length b → Fitted b at xs b' end → Put b at xs b' end
+fitted_put {b} {at} {xs} h p = let q = rw (fits_whole b at xs h) at p in record { bytes = q.1; after = q.0 }
 
 -- from the front
-pub fitted-front : {b xs b' : List ℕ} {end : ℕ} → length xs ≤ length b → Fitted b 0 xs b' end → Front xs b b' end
-fitted-front h p = to_front (fitted-put (rw zero-add h) p) h
+pub fitted_front : {b xs b' : List ℕ} {end : ℕ} → length xs ≤ length b → Fitted b 0 xs b' end → Front xs b b' end
+fitted_front h p = to_front (fitted_put (rw zero-add h) p) h

@@ -6,13 +6,13 @@ use native.Mathlib.Omega.{arith}
 use native.Mathlib.Nat.{pow-suc, mul_assoc, mul-pos, le_trans, le-mul_of_pos_right, mod-lt, mod-eq_of_lt, div-add-mod, mul-add-div, mul-add-mod_self_left, div-div-eq-div-mul, div-lt_iff_lt-mul, le-div_iff_mul-le}
 use lib.Pow.{pow-add}
 use lib.Dec.{lit<}
-use Rattle.buffer.specs.Decimal.{showNatural}
+use Rattle.buffer.specs.Decimal.{show_natural}
 use Rattle.buffer.specs.Code.{halves}
-use Rattle.buffer.proofs.Written.{digits-one, digits_more}
+use Rattle.buffer.proofs.Written.{digits_one, digits_more}
 
-pub by-halves : (k v : ℕ) → halves (suc k) v ≡ halves k (v / 10 ^ (2 ^ k)) ++ halves k (v % 10 ^ (2 ^ k))
+pub by_halves : (k v : ℕ) → halves (suc k) v ≡ halves k (v / 10 ^ (2 ^ k)) ++ halves k (v % 10 ^ (2 ^ k))
 unfolding halves
-by-halves k v = refl
+by_halves k v = refl
 
 -- ---- a number above b · b, in steps of b
 module _ (b : ℕ) (p : 0 < b) (v : ℕ) where
@@ -29,35 +29,35 @@ module _ (b : ℕ) (p : 0 < b) (v : ℕ) where
   lowest : v % b ≡ v % (b * b) % b
   lowest = ap (λ (n : ℕ). n % b) above ∙ mul-add-mod_self_left b (b * (v / (b * b))) (v % (b * b))
 
-module _ (b : ℕ) (p : 0 < b) (last : ℕ → List ℕ) (law : (v : ℕ) → b ≤ v → showNatural v ≡ showNatural (v / b) ++ last (v % b)) where
-  twice : (v : ℕ) → b * b ≤ v → showNatural v ≡ showNatural (v / (b * b)) ++ (last (v % (b * b) / b) ++ last (v % (b * b) % b))
+module _ (b : ℕ) (p : 0 < b) (last : ℕ → List ℕ) (law : (v : ℕ) → b ≤ v → show_natural v ≡ show_natural (v / b) ++ last (v % b)) where
+  twice : (v : ℕ) → b * b ≤ v → show_natural v ≡ show_natural (v / (b * b)) ++ (last (v % (b * b) / b) ++ last (v % (b * b) % b))
   twice v h =
       let more : b ≤ v / b = (le-div_iff_mul-le p).1 h in
       law v (le_trans (le-mul_of_pos_right b p) h)
       ∙ rw (law (v / b) more, div-div-eq-div-mul, middle b p v, lowest b p v)
-      (append_assoc (showNatural (v / (b * b))) (last (v % (b * b) / b)) (last (v % (b * b) % b)))
+      (append_assoc (show_natural (v / (b * b))) (last (v % (b * b) / b)) (last (v % (b * b) % b)))
 
-ten-pos : (n : ℕ) → 0 < 10 ^ n
-ten-pos zero = lit< tt
-ten-pos (suc n) = rw pow-suc (mul-pos (ten-pos n) (lit< tt))
+ten_pos : (n : ℕ) → 0 < 10 ^ n
+ten_pos zero = lit< tt
+ten_pos (suc n) = rw pow-suc (mul-pos (ten_pos n) (lit< tt))
 
 -- the square of a base is the next base
-base-square : (k : ℕ) → 10 ^ (2 ^ k) * 10 ^ (2 ^ k) ≡ 10 ^ (2 ^ suc k)
-base-square k =
+base_square : (k : ℕ) → 10 ^ (2 ^ k) * 10 ^ (2 ^ k) ≡ 10 ^ (2 ^ suc k)
+base_square k =
     let e : 2 ^ k * 2 ≡ 2 ^ k + 2 ^ k = omega arith in
     sym (ap (λ (n : ℕ). 10 ^ n) (pow-suc 2 k ∙ e) ∙ pow-add 10 (2 ^ k) (2 ^ k))
 
 -- THE LAW
-pub show-halves : (k v : ℕ) → 10 ^ (2 ^ k) ≤ v → showNatural v ≡ showNatural (v / 10 ^ (2 ^ k)) ++ halves k (v % 10 ^ (2 ^ k))
+pub show_halves : (k v : ℕ) → 10 ^ (2 ^ k) ≤ v → show_natural v ≡ show_natural (v / 10 ^ (2 ^ k)) ++ halves k (v % 10 ^ (2 ^ k))
 unfolding halves
-show-halves zero v h = digits_more v h
-show-halves (suc k) v h =
-    subst (λ (n : ℕ). n ≤ v → showNatural v ≡ showNatural (v / n) ++ (halves k (v % n / 10 ^ (2 ^ k)) ++ halves k (v % n % 10 ^ (2 ^ k))))
-    (base-square k) (twice (10 ^ (2 ^ k)) (ten-pos (2 ^ k)) (halves k) (show-halves k) v) h
+show_halves zero v h = digits_more v h
+show_halves (suc k) v h =
+    subst (λ (n : ℕ). n ≤ v → show_natural v ≡ show_natural (v / n) ++ (halves k (v % n / 10 ^ (2 ^ k)) ++ halves k (v % n % 10 ^ (2 ^ k))))
+    (base_square k) (twice (10 ^ (2 ^ k)) (ten_pos (2 ^ k)) (halves k) (show_halves k) v) h
 
-pub show-digit : (v : ℕ) → v < 10 → showNatural v ≡ halves 0 v
+pub show_digit : (v : ℕ) → v < 10 → show_natural v ≡ halves 0 v
 unfolding halves
-show-digit v h = digits-one v h
+show_digit v h = digits_one v h
 
-pub show-two : (v : ℕ) → 10 ≤ v → v < 100 → showNatural v ≡ halves 1 v
-show-two v h k = show-halves 0 v h ∙ rw (show-digit (v / 10) (omega arith)) (sym (by-halves 0 v))
+pub show_two : (v : ℕ) → 10 ≤ v → v < 100 → show_natural v ≡ halves 1 v
+show_two v h k = show_halves 0 v h ∙ rw (show_digit (v / 10) (omega arith)) (sym (by_halves 0 v))

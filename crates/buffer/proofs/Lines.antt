@@ -9,28 +9,28 @@ use lib.ListN.{length, get_or, drop, length-append, drop_of_length-le}
 use lib.Seq.{drop-cons}
 use mir.Syntax.{w64}
 use mir.Val.{SFits}
-use Rattle.buffer.specs.Decimal.{showNumber}
-use Rattle.buffer.specs.Lines.{fieldBytes, lineBytes}
+use Rattle.buffer.specs.Decimal.{show_number}
+use Rattle.buffer.specs.Lines.{field_bytes, line_bytes}
 
 -- ---- field by field
-pub field-more : (zs : List ℤ) (i : ℕ) → i < length zs →
-    fieldBytes (drop i zs) ≡ (9 ∷ showNumber (get_or zs i (pos 0))) ++ fieldBytes (drop (i + 1) zs)
-unfolding fieldBytes
-field-more zs i h = rw (add-one, drop-cons zs i (pos 0) h)
+pub field_more : (zs : List ℤ) (i : ℕ) → i < length zs →
+    field_bytes (drop i zs) ≡ (9 ∷ show_number (get_or zs i (pos 0))) ++ field_bytes (drop (i + 1) zs)
+unfolding field_bytes
+field_more zs i h = rw (add-one, drop-cons zs i (pos 0) h)
 
-pub field-length : (zs : List ℤ) (i : ℕ) → i < length zs → length (fieldBytes (drop i zs))
-    ≡ 1 + length (showNumber (get_or zs i (pos 0))) + length (fieldBytes (drop (i + 1) zs))
-field-length zs i h = ap length (field-more zs i h) ∙ simp length-append (omega arith)
+pub field_length : (zs : List ℤ) (i : ℕ) → i < length zs → length (field_bytes (drop i zs))
+    ≡ 1 + length (show_number (get_or zs i (pos 0))) + length (field_bytes (drop (i + 1) zs))
+field_length zs i h = ap length (field_more zs i h) ∙ simp length-append (omega arith)
 
-pub field-none : (zs : List ℤ) (i : ℕ) → length zs ≤ i → fieldBytes (drop i zs) ≡ []
-unfolding fieldBytes
-field-none zs i h = rw (drop_of_length-le zs h)
+pub field_none : (zs : List ℤ) (i : ℕ) → length zs ≤ i → field_bytes (drop i zs) ≡ []
+unfolding field_bytes
+field_none zs i h = rw (drop_of_length-le zs h)
 
 -- ---- how many there are
-pub line-length : (serial : ℤ) (word : List ℕ) (zs : List ℤ) → length (lineBytes serial word zs)
-    ≡ length (showNumber serial) + (1 + length word) + length (fieldBytes zs) + 1
-unfolding lineBytes
-line-length serial word zs = simp length-append (omega arith)
+pub line_length : (serial : ℤ) (word : List ℕ) (zs : List ℤ) → length (line_bytes serial word zs)
+    ≡ length (show_number serial) + (1 + length word) + length (field_bytes zs) + 1
+unfolding line_bytes
+line_length serial word zs = simp length-append (omega arith)
 
 -- ---- every number is one of 64 bits
 abbrev pub AllFit : List ℤ → Type 0

@@ -9,9 +9,9 @@ use lib.Seq.{sets, length-sets, sets-eq, take_all, drop-length, drop-drop}
 use borrow.Rule.Slice.PartMut.{mid_of, put_mid, Post-is}
 use Rattle.buffer.specs.Code.{Put, Front}
 
-sets-append : (xs ys b : List ℕ) (k : ℕ) → sets (sets b k xs) (k + length xs) ys ≡ sets b k (xs ++ ys)
-sets-append [] ys b k = rw add-zero
-sets-append (x ∷ xs) ys b k = rw (add-suc, ← suc-add) (sets-append xs ys (set b k x) (suc k))
+sets_append : (xs ys b : List ℕ) (k : ℕ) → sets (sets b k xs) (k + length xs) ys ≡ sets b k (xs ++ ys)
+sets_append [] ys b k = rw add-zero
+sets_append (x ∷ xs) ys b k = rw (add-suc, ← suc-add) (sets_append xs ys (set b k x) (suc k))
 
 pub nothing : (b : List ℕ) (at : ℕ) → Put b at [] b at
 nothing b at = record { bytes = refl; after = sym (add-zero at) }
@@ -25,7 +25,7 @@ pub then : {b : List ℕ} {at : ℕ} {xs b' : List ℕ} {end : ℕ} {ys b'' : Li
 then {b} {at} {xs} {b'} {end} {ys} p q =
     record {
       bytes = q.bytes ∙ (ap (λ (l : List ℕ). sets l end ys) p.bytes
-          ∙ (ap (λ (k : ℕ). sets (sets b at xs) k ys) p.after ∙ sets-append xs ys b at));
+          ∙ (ap (λ (k : ℕ). sets (sets b at xs) k ys) p.after ∙ sets_append xs ys b at));
       after = q.after
           ∙ (ap (λ (k : ℕ). k + length ys) p.after
           ∙ (add_assoc at (length xs) (length ys) ∙ ap (λ (k : ℕ). at + k) (sym (length-append xs ys))));
@@ -33,7 +33,7 @@ then {b} {at} {xs} {b'} {end} {ys} p q =
 
 -- a run that is still to come: behind the one that is written it is part of a longer one
 pub go_on : {b : List ℕ} {at : ℕ} {xs b' : List ℕ} {end : ℕ} (ys : List ℕ) → Put b at xs b' end → sets b' end ys ≡ sets b at (xs ++ ys)
-go_on {b} {at} {xs} ys p = rw (p.bytes, p.after) (sets-append xs ys b at)
+go_on {b} {at} {xs} ys p = rw (p.bytes, p.after) (sets_append xs ys b at)
 
 -- the buffer keeps its length
 pub kept : {b : List ℕ} {at : ℕ} {xs b' : List ℕ} {end : ℕ} → Put b at xs b' end → length b' ≡ length b

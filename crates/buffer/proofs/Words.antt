@@ -13,43 +13,43 @@ use mir.Syntax.{w64}
 use mir.Val.{SFits, to_z, of_z}
 use mir.ValLaws.{of_z_fits}
 use Rattle.word.proofs.Fits.{back}
-use Rattle.buffer.specs.Words.{bytes, signed-bytes, encode}
+use Rattle.buffer.specs.Words.{bytes, signed_bytes, encode}
 
-pub length-bytes : (n u : ℕ) → length (bytes n u) ≡ n
+pub length_bytes : (n u : ℕ) → length (bytes n u) ≡ n
 unfolding bytes
-length-bytes zero u = refl
-length-bytes (suc n) u = ap suc (length-bytes n (u / 256))
+length_bytes zero u = refl
+length_bytes (suc n) u = ap suc (length_bytes n (u / 256))
 
 -- ---- the number of some bytes, the lowest first
-unfoldable pub bytesValue : List ℕ → ℕ
-bytesValue [] = 0
-bytesValue (b ∷ bs) = b + 256 * bytesValue bs
+unfoldable pub bytes_value : List ℕ → ℕ
+bytes_value [] = 0
+bytes_value (b ∷ bs) = b + 256 * bytes_value bs
 
-pub value-bytes : (n u : ℕ) → u < 256 ^ n → bytesValue (bytes n u) ≡ u
-unfolding bytes bytesValue
-value-bytes zero u h = omega (arith, pow-zero 256)
-value-bytes (suc n) u h = rw (value-bytes n (u / 256) ((div-lt_iff_lt-mul (lit< tt)).1 (rw pow-suc at h))) (omega (arith, div-add-mod u 256))
+pub value_bytes : (n u : ℕ) → u < 256 ^ n → bytes_value (bytes n u) ≡ u
+unfolding bytes bytes_value
+value_bytes zero u h = omega (arith, pow-zero 256)
+value_bytes (suc n) u h = rw (value_bytes n (u / 256) ((div-lt_iff_lt-mul (lit< tt)).1 (rw pow-suc at h))) (omega (arith, div-add-mod u 256))
 
 -- THE LAW: eight bytes of a signed number are read back
-pub read-bytes : {z : ℤ} → SFits w64 z → to_z w64 (bytesValue (signed-bytes z)) ≡ z
-read-bytes {z} f = ap (to_z w64) (value-bytes 8 (of_z w64 z) (of_z_fits w64 z f).fits) ∙ back f
+pub read_bytes : {z : ℤ} → SFits w64 z → to_z w64 (bytes_value (signed_bytes z)) ≡ z
+read_bytes {z} f = ap (to_z w64) (value_bytes 8 (of_z w64 z) (of_z_fits w64 z f).fits) ∙ back f
 
 -- ---- number by number
-pub length-encode : (zs : List ℤ) → length (encode zs) ≡ 8 * length zs
+pub length_encode : (zs : List ℤ) → length (encode zs) ≡ 8 * length zs
 unfolding encode
-length-encode [] = refl
-length-encode (z ∷ zs) = simp (length-append, length-bytes, length-encode zs) (omega arith)
+length_encode [] = refl
+length_encode (z ∷ zs) = simp (length-append, length_bytes, length_encode zs) (omega arith)
 
-pub encode-more : (zs : List ℤ) (i : ℕ) → i < length zs → encode (drop i zs) ≡ signed-bytes (get_or zs i (pos 0)) ++ encode (drop (i + 1) zs)
+pub encode_more : (zs : List ℤ) (i : ℕ) → i < length zs → encode (drop i zs) ≡ signed_bytes (get_or zs i (pos 0)) ++ encode (drop (i + 1) zs)
 unfolding encode
-encode-more zs i h = rw (add-one, drop-cons zs i (pos 0) h)
+encode_more zs i h = rw (add-one, drop-cons zs i (pos 0) h)
 
-pub encode-none : (zs : List ℤ) (i : ℕ) → length zs ≤ i → encode (drop i zs) ≡ []
+pub encode_none : (zs : List ℤ) (i : ℕ) → length zs ≤ i → encode (drop i zs) ≡ []
 unfolding encode
-encode-none zs i h = rw (drop_of_length-le zs h)
+encode_none zs i h = rw (drop_of_length-le zs h)
 
 -- "two's complement, low byte first": 258 and −2
-low-byte-first : encode (pos 258 ∷ negsuc 1 ∷ [])
+low_byte_first : encode (pos 258 ∷ negsuc 1 ∷ [])
     ≡ 2 ∷ 1 ∷ 0 ∷ 0 ∷ 0 ∷ 0 ∷ 0 ∷ 0 ∷ 254 ∷ 255 ∷ 255 ∷ 255 ∷ 255 ∷ 255 ∷ 255 ∷ 255 ∷ []
 unfolding encode bytes
-low-byte-first = refl
+low_byte_first = refl

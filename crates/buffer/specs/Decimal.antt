@@ -6,10 +6,10 @@ unfoldable pub digits : ℕ → ℕ → List ℕ
 digits zero v = []
 digits (suc f) v = cond (ltb v 10) ((48 + v) ∷ []) (digits f (v / 10) ++ (48 + v % 10) ∷ [])
 
-unfoldable pub showNatural : ℕ → List ℕ
-showNatural v = digits (suc v) v
+unfoldable pub show_natural : ℕ → List ℕ
+show_natural v = digits (suc v) v
 
 -- a minus is byte 45
-unfoldable pub showNumber : ℤ → List ℕ
-showNumber (pos n) = showNatural n
-showNumber (negsuc n) = 45 ∷ showNatural (suc n)
+unfoldable pub show_number : ℤ → List ℕ
+show_number (pos n) = show_natural n
+show_number (negsuc n) = 45 ∷ show_natural (suc n)

@@ -9,10 +9,10 @@ bytes zero u = []
 bytes (suc n) u = u % 256 ∷ bytes n (u / 256)
 
 -- a signed number: the eight bytes of its two's complement
-abbrev pub signed-bytes : ℤ → List ℕ
-signed-bytes z = bytes 8 (of_z w64 z)
+abbrev pub signed_bytes : ℤ → List ℕ
+signed_bytes z = bytes 8 (of_z w64 z)
 
 -- several in a row
 unfoldable pub encode : List ℤ → List ℕ
 encode [] = []
-encode (z ∷ zs) = signed-bytes z ++ encode zs
+encode (z ∷ zs) = signed_bytes z ++ encode zs

@@ -4,8 +4,8 @@ ghost use Rattle.std.specs.Prelude.{◌≡◌, true, ◌+◌, ◌*◌, ◌≤◌
 ghost use Rattle.std.proofs.lemmas.List.Edits.{sets};
 ghost use Rattle.std.specs.Int.{w64};
 ghost use Rattle.std.proofs.Common.{of_z};
-ghost use Rattle.buffer.specs.Decimal.{showNatural, showNumber};
-ghost use Rattle.buffer.specs.Lines.{fieldBytes, lineBytes};
+ghost use Rattle.buffer.specs.Decimal.{show_natural, show_number};
+ghost use Rattle.buffer.specs.Lines.{field_bytes, line_bytes};
 ghost use Rattle.buffer.specs.Words.{bytes as low-bytes, encode};
 ghost use Rattle.buffer.specs.Fitting.{fitting};
 ghost use Rattle.buffer.specs.Code.{Put, halves};
@@ -47,8 +47,8 @@ fn write_eight(v: u64, out: &mut [u8], at: usize) -> usize
 
 // The digits of a number that has at most two, four and eight of them.
 fn write_to_two(v: u64, out: &mut [u8], at: usize) -> usize
-    requires { (v < 100) × (at + length (showNatural v) ≤ length out.old) }
-    ensures { Put out.old at (showNatural v) out.new result }
+    requires { (v < 100) × (at + length (show_natural v) ≤ length out.old) }
+    ensures { Put out.old at (show_natural v) out.new result }
 {
     if v < 10 {
         return write_digit(v, out, at);
@@ -57,8 +57,8 @@ fn write_to_two(v: u64, out: &mut [u8], at: usize) -> usize
 }
 
 fn write_to_four(v: u64, out: &mut [u8], at: usize) -> usize
-    requires { (v < 10000) × (at + length (showNatural v) ≤ length out.old) }
-    ensures { Put out.old at (showNatural v) out.new result }
+    requires { (v < 10000) × (at + length (show_natural v) ≤ length out.old) }
+    ensures { Put out.old at (show_natural v) out.new result }
 {
     if v < 100 {
         return write_to_two(v, out, at);
@@ -68,8 +68,8 @@ fn write_to_four(v: u64, out: &mut [u8], at: usize) -> usize
 }
 
 fn write_to_eight(v: u64, out: &mut [u8], at: usize) -> usize
-    requires { (v < 100000000) × (at + length (showNatural v) ≤ length out.old) }
-    ensures { Put out.old at (showNatural v) out.new result }
+    requires { (v < 100000000) × (at + length (show_natural v) ≤ length out.old) }
+    ensures { Put out.old at (show_natural v) out.new result }
 {
     if v < 10000 {
         return write_to_four(v, out, at);
@@ -80,8 +80,8 @@ fn write_to_eight(v: u64, out: &mut [u8], at: usize) -> usize
 
 // The digits of v.
 fn write_natural(v: u64, out: &mut [u8], at: usize) -> usize
-    requires { at + length (showNatural v) ≤ length out.old }
-    ensures { Put out.old at (showNatural v) out.new result }
+    requires { at + length (show_natural v) ≤ length out.old }
+    ensures { Put out.old at (show_natural v) out.new result }
 {
     if v < 100000000 {
         return write_to_eight(v, out, at);
@@ -105,8 +105,8 @@ fn size(z: i64) -> u64
 }
 
 fn write_number(z: i64, out: &mut [u8], at: usize) -> usize
-    requires { at + length (showNumber z) ≤ length out.old }
-    ensures { Put out.old at (showNumber z) out.new result }
+    requires { at + length (show_number z) ≤ length out.old }
+    ensures { Put out.old at (show_number z) out.new result }
 {
     let v = size(z);
     if z < 0 {
@@ -125,8 +125,8 @@ fn write_bytes(word: &[u8], out: &mut [u8], at: usize) -> usize
 
 // Each number behind a tab.
 fn write_fields(zs: &[i64], out: &mut [u8], at: usize) -> usize
-    requires { at + length (fieldBytes zs.now) ≤ length out.old }
-    ensures { Put out.old at (fieldBytes zs.now) out.new result }
+    requires { at + length (field_bytes zs.now) ≤ length out.old }
+    ensures { Put out.old at (field_bytes zs.now) out.new result }
 {
     let mut i: usize = 0;
     let mut j = at;
@@ -139,8 +139,8 @@ fn write_fields(zs: &[i64], out: &mut [u8], at: usize) -> usize
 }
 
 fn write_line(serial: i64, word: &[u8], fields: &[i64], out: &mut [u8], at: usize) -> usize
-    requires { at + length (lineBytes serial word.now fields.now) ≤ length out.old }
-    ensures { Put out.old at (lineBytes serial word.now fields.now) out.new result }
+    requires { at + length (line_bytes serial word.now fields.now) ≤ length out.old }
+    ensures { Put out.old at (line_bytes serial word.now fields.now) out.new result }
 {
     let a = write_number(serial, out, at);
     out[a] = 9;
@@ -189,7 +189,7 @@ fn write_words(numbers: &[i64], out: &mut [u8], at: usize) -> usize
 // ---- how much room there must be
 
 fn natural_length(v: u64) -> usize
-    ensures { result ≡ length (showNatural v) }
+    ensures { result ≡ length (show_natural v) }
 {
     if v < 10 {
         return 1;
@@ -198,14 +198,14 @@ fn natural_length(v: u64) -> usize
 }
 
 fn number_length(z: i64) -> usize
-    ensures { result ≡ length (showNumber z) }
+    ensures { result ≡ length (show_number z) }
 {
     let n = natural_length(size(z));
     if z < 0 { n + 1 } else { n }
 }
 
 fn number_fits(z: i64, room: usize) -> bool
-    ensures { result ≡ leb (length (showNumber z)) room }
+    ensures { result ≡ leb (length (show_number z)) room }
 {
     // no number has more than 20 bytes, so they are counted only near a buffer's end
     if 20 <= room {
@@ -216,14 +216,14 @@ fn number_fits(z: i64, room: usize) -> bool
 
 // The most bytes that a number takes with its tab.
 fn field_most(z: i64) -> usize
-    ensures { (1 + length (showNumber z) ≤ result) × (result ≤ 21) }
+    ensures { (1 + length (show_number z) ≤ result) × (result ≤ 21) }
 {
     21
 }
 
 // Whether any line with such a word and so many fields fits: its digits are not counted.
 fn surely_fits(word: &[u8], fields: &[i64], room: usize) -> bool
-    ensures { result ≡ true → 22 + length word.now + length (fieldBytes fields.now) ≤ room }
+    ensures { result ≡ true → 22 + length word.now + length (field_bytes fields.now) ≤ room }
 {
     // so that no sum here overflows
     if 1000 < word.len() {
@@ -242,7 +242,7 @@ fn surely_fits(word: &[u8], fields: &[i64], room: usize) -> bool
 }
 
 fn line_fits(serial: i64, word: &[u8], fields: &[i64], room: usize) -> bool
-    ensures { result ≡ leb (length (lineBytes serial word.now fields.now)) room }
+    ensures { result ≡ leb (length (line_bytes serial word.now fields.now)) room }
 {
     if surely_fits(word, fields, room) {
         return true;
@@ -285,8 +285,8 @@ pub fn put_bytes(bytes: &[u8], out: &mut [u8], at: usize) -> usize
 
 // A number in decimal digits.
 pub fn put_number(z: i64, out: &mut [u8], at: usize) -> usize
-    ensures count { result ≡ at + length (fitting out.old at (showNumber z)) }
-    ensures bytes { out.new ≡ sets out.old at (fitting out.old at (showNumber z)) }
+    ensures count { result ≡ at + length (fitting out.old at (show_number z)) }
+    ensures bytes { out.new ≡ sets out.old at (fitting out.old at (show_number z)) }
 {
     if out.len() < at {
         return at;
@@ -299,8 +299,8 @@ pub fn put_number(z: i64, out: &mut [u8], at: usize) -> usize
 
 // A line: a serial, a word and numbers.
 pub fn put_line(serial: i64, word: &[u8], fields: &[i64], out: &mut [u8], at: usize) -> usize
-    ensures count { result ≡ at + length (fitting out.old at (lineBytes serial word.now fields.now)) }
-    ensures bytes { out.new ≡ sets out.old at (fitting out.old at (lineBytes serial word.now fields.now)) }
+    ensures count { result ≡ at + length (fitting out.old at (line_bytes serial word.now fields.now)) }
+    ensures bytes { out.new ≡ sets out.old at (fitting out.old at (line_bytes serial word.now fields.now)) }
 {
     if out.len() < at {
         return at;

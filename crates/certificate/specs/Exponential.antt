@@ -13,7 +13,7 @@ use Rattle.answer.specs.declared.Answer.TheVariants.{Answered, Refused}
 use Rattle.table_numbers.specs.Promise.{Constants}
 use Rattle.table_numbers.specs.Numbers48.{constants48}
 use Rattle.exponential.specs.Reduction.{reduction}
-use Rattle.exponential.specs.Answer.{rounding-share, up, down, least-terms}
+use Rattle.exponential.specs.Answer.{rounding_share, up, down, least_terms}
 
 -- 2^k times the answer a times the exponential of what is left, ρ, less the start times the exponential of the given exponent
 abbrev pub miss : (F T : ℕ) (k : ℤ) (e s a ρ : 𝔾) → 𝔾
@@ -21,7 +21,7 @@ miss F T k e s a ρ = twoᵍ (up k) *ᵍ a *ᵍ Sᵍ (2 ^ F) T ρ -ᵍ twoᵍ (d
 
 -- (12N + 51)·M/2^F + 2N + 3, in units times 2^k
 abbrev pub allowed : (F n T : ℕ) (k m : ℤ) → ℤ
-allowed F n T k m = ((pos 12 *ℤ pos n +ℤ pos 51) *ℤ m +ℤ (rounding-share *ℤ pos n +ℤ pos 3) *ℤ two F) *ℤ two (up k) *ℤ Dᶻ (2 ^ F) T
+allowed F n T k m = ((pos 12 *ℤ pos n +ℤ pos 51) *ℤ m +ℤ (rounding_share *ℤ pos n +ℤ pos 3) *ℤ two F) *ℤ two (up k) *ℤ Dᶻ (2 ^ F) T
 
 -- is at most that in size in each part, M being that of the start s₁ which the steps were given
 pub record CertifiedAt (F n T : ℕ) (k : ℤ) (e s s₁ a ρ : 𝔾) : Type 0 where
@@ -29,7 +29,7 @@ pub record CertifiedAt (F n T : ℕ) (k : ℤ) (e s s₁ a ρ : 𝔾) : Type 0 w
   pub im : abs (miss F T k e s a ρ).im *ℤ two F ⩽ allowed F n T k (larger s₁)
 
 abbrev pub CertifiedFor : ℕ → Constants → ℕ → 𝔾 → 𝔾 → Figures → Type 0
-CertifiedFor F c n e s f = (T : ℕ) → least-terms F e ≤ T →
+CertifiedFor F c n e s f = (T : ℕ) → least_terms F e ≤ T →
     CertifiedAt F n T f.binary_exponent e s (gauss (reduction F c e s).start) (gauss f.value) (gauss f.remainder)
 
 -- every input that meets no refusal

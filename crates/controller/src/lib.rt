@@ -3,18 +3,18 @@
 // of the step table.
 // include/bkm.h is the contract in plain words.
 ghost use Rattle.std.specs.Prelude.{◌≡◌, ◌++◌, pos, length, drop};
-ghost use Rattle.answer.specs.Record.{recordOf};
-ghost use Rattle.table_numbers.specs.Table.{stepTable};
-ghost use Rattle.exponential.specs.Answer.{expAnswer};
-ghost use Rattle.logarithm.specs.Answer.{logAnswer};
+ghost use Rattle.answer.specs.Record.{record_of};
+ghost use Rattle.table_numbers.specs.Table.{step_table};
+ghost use Rattle.exponential.specs.Answer.{exp_answer};
+ghost use Rattle.logarithm.specs.Answer.{log_answer};
 ghost use Rattle.book.specs.Book.{opened};
-ghost use Rattle.book.specs.Call.{outcome, expBy, logBy, replyRecord};
-ghost use Rattle.doubles.specs.Record.{doublesAnswer, AnswerKept, unitsAnswer, WrittenBack};
-ghost use Rattle.text.specs.Answer.{reply, count_for, outFor};
+ghost use Rattle.book.specs.Call.{outcome, exp_by, log_by, reply_record};
+ghost use Rattle.doubles.specs.Record.{doubles_answer, AnswerKept, units_answer, WrittenBack};
+ghost use Rattle.text.specs.Answer.{reply, count_for, out_for};
 ghost use Rattle.merge.specs.Merge.{merge};
-ghost use Rattle.merge.specs.Call.{refusalFor, bytesFor};
+ghost use Rattle.merge.specs.Call.{refusal_for, bytes_for};
 ghost use Rattle.merge_stop.specs.Stop.{stop};
-ghost use Rattle.controller.specs.Record.{handed, written, part_of, countOrRefusal};
+ghost use Rattle.controller.specs.Record.{handed, written, part_of, count_or_refusal};
 
 use answer::Answer;
 use book::{Book, Opening, Settled};
@@ -27,8 +27,8 @@ const RECORD_ROOM: usize = 64;
 
 // An answer's record into the lent buffer, and its first number back.
 fn hand_over(answer: Answer, out: &mut [u8]) -> i64
-    ensures handed { result ≡ handed out.old (recordOf answer) }
-    ensures bytes { out.new ≡ written out.old (recordOf answer) }
+    ensures handed { result ≡ handed out.old (record_of answer) }
+    ensures bytes { out.new ≡ written out.old (record_of answer) }
 {
     if out.len() < RECORD_ROOM {
         return 6;
@@ -40,8 +40,8 @@ fn hand_over(answer: Answer, out: &mut [u8]) -> i64
 
 #[unsafe(no_mangle)]
 pub extern "C" fn bkm_exp(n: i64, ex: i64, ey: i64, sx: i64, sy: i64, out: &mut [u8]) -> i64
-    ensures handed { result ≡ handed out.old (recordOf (expAnswer n ex ey sx sy)) }
-    ensures bytes { out.new ≡ written out.old (recordOf (expAnswer n ex ey sx sy)) }
+    ensures handed { result ≡ handed out.old (record_of (exp_answer n ex ey sx sy)) }
+    ensures bytes { out.new ≡ written out.old (record_of (exp_answer n ex ey sx sy)) }
 {
     let answer = exponential::exp(n, Point { x: ex, y: ey }, Point { x: sx, y: sy });
     hand_over(answer, out)
@@ -57,8 +57,8 @@ pub extern "C" fn bkm_exp_register(
     sy: i64,
     out: &mut [u8],
 ) -> i64
-    ensures handed { result ≡ handed out.old (recordOf (expAnswer n ex ey sx sy)) }
-    ensures bytes { out.new ≡ written out.old (recordOf (expAnswer n ex ey sx sy)) }
+    ensures handed { result ≡ handed out.old (record_of (exp_answer n ex ey sx sy)) }
+    ensures bytes { out.new ≡ written out.old (record_of (exp_answer n ex ey sx sy)) }
 {
     let by_register = register::exp(n, Point { x: ex, y: ey }, Point { x: sx, y: sy });
     hand_over(by_register, out)
@@ -66,8 +66,8 @@ pub extern "C" fn bkm_exp_register(
 
 #[unsafe(no_mangle)]
 pub extern "C" fn bkm_log(n: i64, x: i64, y: i64, out: &mut [u8]) -> i64
-    ensures handed { result ≡ handed out.old (recordOf (logAnswer n x y)) }
-    ensures bytes { out.new ≡ written out.old (recordOf (logAnswer n x y)) }
+    ensures handed { result ≡ handed out.old (record_of (log_answer n x y)) }
+    ensures bytes { out.new ≡ written out.old (record_of (log_answer n x y)) }
 {
     let answer = logarithm::log(n, Point { x, y });
     hand_over(answer, out)
@@ -90,7 +90,7 @@ pub struct BookAnswer {
 }
 
 fn book_answer(s: Settled) -> BookAnswer
-    ensures answer { result.«record» ≡ replyRecord s.reply }
+    ensures answer { result.«record» ≡ reply_record s.reply }
     ensures book { result.book ≡ s.book }
 {
     let reply = s.reply;
@@ -109,8 +109,8 @@ pub extern "C" fn bkm_book_exp(
     sx: i64,
     sy: i64,
 ) -> BookAnswer
-    ensures answer { result.«record» ≡ replyRecord (outcome (expBy caller n ex ey sx sy) book).reply }
-    ensures book { result.book ≡ (outcome (expBy caller n ex ey sx sy) book).book }
+    ensures answer { result.«record» ≡ reply_record (outcome (exp_by caller n ex ey sx sy) book).reply }
+    ensures book { result.book ≡ (outcome (exp_by caller n ex ey sx sy) book).book }
 {
     let s = book::exp(
         book,
@@ -124,8 +124,8 @@ pub extern "C" fn bkm_book_exp(
 
 #[unsafe(no_mangle)]
 pub extern "C" fn bkm_book_log(book: Book, caller: i64, n: i64, x: i64, y: i64) -> BookAnswer
-    ensures answer { result.«record» ≡ replyRecord (outcome (logBy caller n x y) book).reply }
-    ensures book { result.book ≡ (outcome (logBy caller n x y) book).book }
+    ensures answer { result.«record» ≡ reply_record (outcome (log_by caller n x y) book).reply }
+    ensures book { result.book ≡ (outcome (log_by caller n x y) book).book }
 {
     let s = book::log(book, caller, n, Point { x, y });
     book_answer(s)
@@ -134,8 +134,8 @@ pub extern "C" fn bkm_book_log(book: Book, caller: i64, n: i64, x: i64, y: i64) 
 // LOG's two parts as doubles, each over 2^48.
 #[unsafe(no_mangle)]
 pub extern "C" fn bkm_log_doubles(n: i64, x: i64, y: i64) -> DoublesAnswer
-    ensures answer { result ≡ doublesAnswer 48 (logAnswer n x y) }
-    ensures kept { AnswerKept 48 (logAnswer n x y) result }
+    ensures answer { result ≡ doubles_answer 48 (log_answer n x y) }
+    ensures kept { AnswerKept 48 (log_answer n x y) result }
 {
     doubles::log_doubles(n, Point { x, y })
 }
@@ -143,7 +143,7 @@ pub extern "C" fn bkm_log_doubles(n: i64, x: i64, y: i64) -> DoublesAnswer
 // Two such doubles read back as whole numbers of units.
 #[unsafe(no_mangle)]
 pub extern "C" fn bkm_read_doubles(d: Doubles) -> UnitsAnswer
-    ensures answer { result ≡ unitsAnswer 48 d }
+    ensures answer { result ≡ units_answer 48 d }
     ensures back { WrittenBack 48 d result }
 {
     doubles::read_doubles(d)
@@ -154,7 +154,7 @@ pub extern "C" fn bkm_read_doubles(d: Doubles) -> UnitsAnswer
 #[unsafe(no_mangle)]
 pub extern "C" fn bkm_line(line: &[u8], out: &mut [u8]) -> usize
     ensures count { result ≡ count_for (reply line.now) out.old }
-    ensures bytes { out.new ≡ outFor (reply line.now) out.old }
+    ensures bytes { out.new ≡ out_for (reply line.now) out.old }
 {
     let a = text::answer_line(line, out);
     a.written
@@ -163,8 +163,8 @@ pub extern "C" fn bkm_line(line: &[u8], out: &mut [u8]) -> usize
 // Two sheets merged into a lent buffer: how many bytes were written, or minus the refusal number.
 #[unsafe(no_mangle)]
 pub extern "C" fn bkm_merge<'a>(a: &'a [u8], b: &'a [u8], out: &mut [u8]) -> i64
-    ensures handed { result ≡ countOrRefusal (refusalFor a.now b.now out.old) (bytesFor a.now b.now out.old) }
-    ensures bytes { out.new ≡ bytesFor a.now b.now out.old ++ drop (length (bytesFor a.now b.now out.old)) out.old }
+    ensures handed { result ≡ count_or_refusal (refusal_for a.now b.now out.old) (bytes_for a.now b.now out.old) }
+    ensures bytes { out.new ≡ bytes_for a.now b.now out.old ++ drop (length (bytes_for a.now b.now out.old)) out.old }
 {
     let m = merge::merge(a, b, out);
     let refusal = m.refusal;
@@ -187,7 +187,7 @@ pub extern "C" fn bkm_merge_stopped_at<'a>(a: &'a [u8], b: &'a [u8]) -> Stop
 // one. Outside the table it is 0.
 #[unsafe(no_mangle)]
 pub extern "C" fn bkm_step_entry(n: usize, dx: i64, dy: i64, part: usize) -> i64
-    ensures { result ≡ part_of part (stepTable n dx dy) }
+    ensures { result ≡ part_of part (step_table n dx dy) }
 {
     let e = tables::pick(step_array::array_row(n, dx), dy);
     if part == 0 { e.re } else { e.im }

@@ -3,8 +3,8 @@ use Rattle.std.proofs.Common.{◌≡◌, ℕ, List, [], ◌∷◌, map, pos, neg
 use lib.Ieee.{binary64, of_bits}
 use Rattle.doubles.specs.declared.Part.{Part}
 use Rattle.doubles.specs.declared.Part.TheVariants.{Whole, Other}
-use Rattle.doubles.specs.Units.{isUnits, unitsOf}
-use Rattle.doubles.specs.Code.{partIn}
+use Rattle.doubles.specs.Units.{is_units, units_of}
+use Rattle.doubles.specs.Code.{part_in}
 
 pub record Case : Type 0 where
   pub pattern : ℕ
@@ -29,6 +29,6 @@ cases =
     ∷ case 0x0000000000000001 Other  -- the smallest double
     ∷ []
 
-pub patterns-hold : map (λ (c : Case). partIn 48 (of_bits binary64 c.pattern)) cases ≡ map (λ (c : Case). c.read) cases
-unfolding partIn isUnits unitsOf of_bits
-patterns-hold = refl
+pub patterns_hold : map (λ (c : Case). part_in 48 (of_bits binary64 c.pattern)) cases ≡ map (λ (c : Case). c.read) cases
+unfolding part_in is_units units_of of_bits
+patterns_hold = refl

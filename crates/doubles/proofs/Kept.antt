@@ -4,26 +4,26 @@ use lib.Ieee.{binary64, fits, of_bits, to_bits}
 use lib.Ieee.Bits.{of_bits-fits, to_bits-of_bits}
 use Rattle.algebra.specs.Gauss.{𝔾, gi}
 use Rattle.algebra.specs.Size.{Size, Parts, abs}
-use Rattle.algebra.proofs.Order.{pos-inj-le}
-use Rattle.algebra.proofs.Parts.{size-abs}
+use Rattle.algebra.proofs.Order.{pos_inj_le}
+use Rattle.algebra.proofs.Parts.{size_abs}
 use Rattle.point.specs.declared.Point.{Point}
 use Rattle.point.specs.Point.{gauss}
 use Rattle.answer.specs.declared.Refusal.{Refusal}
 use Rattle.answer.specs.declared.Figures.{Figures}
 use Rattle.answer.specs.declared.Answer.{Answer}
 use Rattle.answer.specs.declared.Answer.TheVariants.{Answered, Refused}
-use Rattle.answer.specs.Refusal.{refusalNumber}
-use Rattle.logarithm.specs.Answer.{logAnswer}
+use Rattle.answer.specs.Refusal.{refusal_number}
+use Rattle.logarithm.specs.Answer.{log_answer}
 use Rattle.logarithm.proofs.Convergence.{most}
-use Rattle.logarithm.proofs.Ranges.{Ranged, log-ranges}
+use Rattle.logarithm.proofs.Ranges.{Ranged, log_ranges}
 use Rattle.doubles.specs.declared.Doubles.{Doubles}
 use Rattle.doubles.specs.declared.DoublesAnswer.{DoublesAnswer}
 use Rattle.doubles.specs.declared.UnitsAnswer.{UnitsAnswer}
-use Rattle.doubles.specs.Units.{isNegative, doubleOf, isUnits, unitsOf}
-use Rattle.doubles.specs.Record.{doubles, zeros, doublesAnswer, accepted, unitsAnswer, Kept, AnswerKept, WrittenBack}
-use Rattle.doubles.proofs.Value.{double-value}
-use Rattle.doubles.proofs.Reading.{units-say, read-written, written_read}
-use Rattle.doubles.proofs.Tests.{value-number}
+use Rattle.doubles.specs.Units.{is_negative, double_of, is_units, units_of}
+use Rattle.doubles.specs.Record.{doubles, zeros, doubles_answer, accepted, units_answer, Kept, AnswerKept, WrittenBack}
+use Rattle.doubles.proofs.Value.{double_value}
+use Rattle.doubles.proofs.Reading.{units_say, read_written, written_read}
+use Rattle.doubles.proofs.Tests.{value_number}
 
 -- ---- LOG's parts are below two: at most 27/16 in size
 pub record Small (F : ℕ) (p : Point) : Type 0 where
@@ -32,7 +32,7 @@ pub record Small (F : ℕ) (p : Point) : Type 0 where
 
 below_two : (F : ℕ) → 4 ≤ F → {z : ℤ} → Size z (most F) → nat_abs z < 2 ^ suc F
 unfolding abs
-below_two F wide {z} s = go (nat_abs z) (2 ^ (F - 4)) (2 ^ suc F) (pos-inj-le (size-abs s)) (pow_pos (F - 4))
+below_two F wide {z} s = go (nat_abs z) (2 ^ (F - 4)) (2 ^ suc F) (pos_inj_le (size_abs s)) (pow_pos (F - 4))
     (ap (λ n. 2 ^ n) split ∙ pow-add 2 5 (F - 4))
   where
     split : suc F ≡ 5 + (F - 4)
@@ -44,54 +44,54 @@ below_two F wide {z} s = go (nat_abs z) (2 ^ (F - 4)) (2 ^ suc F) (pos-inj-le (s
 small : (F : ℕ) → 4 ≤ F → {p : Point} → Parts (gauss p) (most F) → Small F p
 small F wide s = record { x = below_two F wide s.re; y = below_two F wide s.im }
 
-pub log-small : (n x y : ℤ) {f : Figures} → logAnswer n x y ≡ Answered f → Small 48 f.value
-log-small n x y e = small 48 (lit≤ tt) (subst (Ranged 48 n (gi x y)) e (log-ranges n x y)).value
+pub log_small : (n x y : ℤ) {f : Figures} → log_answer n x y ≡ Answered f → Small 48 f.value
+log_small n x y e = small 48 (lit≤ tt) (subst (Ranged 48 n (gi x y)) e (log_ranges n x y)).value
 
 -- ---- NOTHING IS LOST of an answer: each double has its part's value, and the record is read back to the same two numbers
-pub small-kept : (F : ℕ) (p : Point) → Small F p → Kept F p (doubles F p.x p.y)
-unfolding unitsAnswer
-small-kept F p s =
-    let k = read-written F p.x s.x in
-    let l = read-written F p.y s.y in
-    record { x = double-value F p.x; y = double-value F p.y; back = rw (k.0, l.0, k.1, l.1) }
+pub small_kept : (F : ℕ) (p : Point) → Small F p → Kept F p (doubles F p.x p.y)
+unfolding units_answer
+small_kept F p s =
+    let k = read_written F p.x s.x in
+    let l = read_written F p.y s.y in
+    record { x = double_value F p.x; y = double_value F p.y; back = rw (k.0, l.0, k.1, l.1) }
 
-answer-kept : (F : ℕ) → 4 ≤ F → (n : ℤ) (p : 𝔾) (a : Answer) → Ranged F n p a → AnswerKept F a (doublesAnswer F a)
-unfolding doublesAnswer
-answer-kept F wide n p (Answered f) r = small-kept F f.value (small F wide r.value)
-answer-kept F wide n p (Refused e) r = tt
+answer_kept : (F : ℕ) → 4 ≤ F → (n : ℤ) (p : 𝔾) (a : Answer) → Ranged F n p a → AnswerKept F a (doubles_answer F a)
+unfolding doubles_answer
+answer_kept F wide n p (Answered f) r = small_kept F f.value (small F wide r.value)
+answer_kept F wide n p (Refused e) r = tt
 
-pub log-kept : (n x y : ℤ) → AnswerKept 48 (logAnswer n x y) (doublesAnswer 48 (logAnswer n x y))
-log-kept n x y = answer-kept 48 (lit≤ tt) n (gi x y) (logAnswer n x y) (log-ranges n x y)
+pub log_kept : (n x y : ℤ) → AnswerKept 48 (log_answer n x y) (doubles_answer 48 (log_answer n x y))
+log_kept n x y = answer_kept 48 (lit≤ tt) n (gi x y) (log_answer n x y) (log_ranges n x y)
 
 -- an answer in doubles, by its case
-pub answered-is : (F : ℕ) {a : Answer} {f : Figures} → a ≡ Answered f →
-    doublesAnswer F a ≡ record { refusal = pos 0; parts = doubles F f.value.x f.value.y }
-unfolding doublesAnswer
-answered-is F e = rw e
+pub answered_is : (F : ℕ) {a : Answer} {f : Figures} → a ≡ Answered f →
+    doubles_answer F a ≡ record { refusal = pos 0; parts = doubles F f.value.x f.value.y }
+unfolding doubles_answer
+answered_is F e = rw e
 
-pub refused-is : (F : ℕ) {a : Answer} {r : Refusal} → a ≡ Refused r → doublesAnswer F a ≡ record { refusal = refusalNumber r; parts = zeros }
-unfolding doublesAnswer
-refused-is F e = rw e
+pub refused_is : (F : ℕ) {a : Answer} {r : Refusal} → a ≡ Refused r → doubles_answer F a ≡ record { refusal = refusal_number r; parts = zeros }
+unfolding doubles_answer
+refused_is F e = rw e
 
 -- what equals the answer in doubles meets both clauses of the call
-pub given : (n x y : ℤ) {r : DoublesAnswer} → r ≡ doublesAnswer 48 (logAnswer n x y) →
-    (r ≡ doublesAnswer 48 (logAnswer n x y)) × AnswerKept 48 (logAnswer n x y) r
-given n x y e = (e, subst (AnswerKept 48 (logAnswer n x y)) (sym e) (log-kept n x y))
+pub given : (n x y : ℤ) {r : DoublesAnswer} → r ≡ doubles_answer 48 (log_answer n x y) →
+    (r ≡ doubles_answer 48 (log_answer n x y)) × AnswerKept 48 (log_answer n x y) r
+given n x y e = (e, subst (AnswerKept 48 (log_answer n x y)) (sym e) (log_kept n x y))
 
 -- ---- WHAT IS READ is written back to the same two doubles
-pub read_back : (F : ℕ) → F ≤ 52 → (d : Doubles) → T (fits binary64 d.x) → T (fits binary64 d.y) → WrittenBack F d (unitsAnswer F d)
-unfolding unitsAnswer
-read_back F narrow d f g = go (isUnits F d.x) (isUnits F d.y) refl refl
+pub read_back : (F : ℕ) → F ≤ 52 → (d : Doubles) → T (fits binary64 d.x) → T (fits binary64 d.y) → WrittenBack F d (units_answer F d)
+unfolding units_answer
+read_back F narrow d f g = go (is_units F d.x) (is_units F d.y) refl refl
   where
     R : Bool → Bool → UnitsAnswer
     R a b = cond (a && b)
-        (accepted (unitsOf F d.x) (unitsOf F d.y))
+        (accepted (units_of F d.x) (units_of F d.y))
         (record { refusal = pos 9; x = pos 0; y = pos 0 })
 
     refused : {A : Type 0} → ◌≡◌ {A = ℤ} (pos 9) (pos 0) → A
     refused e = let z : ◌≡◌ {A = ℕ} 9 0 = cc in absurd (omega arith)
 
-    go : (a b : Bool) → isUnits F d.x ≡ a → isUnits F d.y ≡ b → WrittenBack F d (R a b)
+    go : (a b : Bool) → is_units F d.x ≡ a → is_units F d.y ≡ b → WrittenBack F d (R a b)
     go true true p q e = rw (
       written_read F d.x narrow f (subst T (sym p) tt),
       written_read F d.y narrow g (subst T (sym q) tt),
@@ -100,15 +100,15 @@ read_back F narrow d f g = go (isUnits F d.x) (isUnits F d.y) refl refl
     go false b p q e = refused e
 
 -- likewise of bits: every pattern of 64 that is accepted comes back
-pub bits_back : (F : ℕ) → F ≤ 52 → (b : ℕ) → b < 2 ^ 64 → T (isUnits F (of_bits binary64 b)) →
-    to_bits binary64 (doubleOf F (unitsOf F (of_bits binary64 b))) ≡ b
+pub bits_back : (F : ℕ) → F ≤ 52 → (b : ℕ) → b < 2 ^ 64 → T (is_units F (of_bits binary64 b)) →
+    to_bits binary64 (double_of F (units_of F (of_bits binary64 b))) ≡ b
 bits_back F narrow b h p =
     let x = of_bits binary64 b in
-    let u = units-say F x p in
+    let u = units_say F x p in
     ap (to_bits binary64) (written_read F x narrow (of_bits-fits binary64 b) p)
-    ∙ to_bits-of_bits binary64 b h (value-number x (isNegative (unitsOf F x)) (nat_abs (unitsOf F x)) (2 ^ F) u.value)
+    ∙ to_bits-of_bits binary64 b h (value_number x (is_negative (units_of F x)) (nat_abs (units_of F x)) (2 ^ F) u.value)
 
 -- what equals a reading meets both clauses of the call
-pub settled : (F : ℕ) → F ≤ 52 → (d : Doubles) {r : UnitsAnswer} → fits binary64 d.x ≡ true → fits binary64 d.y ≡ true → unitsAnswer F d ≡ r →
-    (r ≡ unitsAnswer F d) × WrittenBack F d r
+pub settled : (F : ℕ) → F ≤ 52 → (d : Doubles) {r : UnitsAnswer} → fits binary64 d.x ≡ true → fits binary64 d.y ≡ true → units_answer F d ≡ r →
+    (r ≡ units_answer F d) × WrittenBack F d r
 settled F narrow d f g e = (sym e, subst (WrittenBack F d) e (read_back F narrow d (subst T (sym f) tt) (subst T (sym g) tt)))

@@ -11,7 +11,7 @@ use lib.Ieee.Fits.{odd-fits, div-fits, mul-fits, of_int-fits, down_pos}
 use lib.Ieee.Bits.{of_bits-to_bits}
 use lib.Ieee.Nearest.{div_same}
 use lib.Ieee.Back.{round_whole, positive_back, negative_back}
-use Rattle.doubles.specs.Units.{isNegative, HasUnits, doubleOf}
+use Rattle.doubles.specs.Units.{is_negative, HasUnits, double_of}
 
 -- the double 2^k
 abbrev pub power : ℕ → Float
@@ -55,20 +55,20 @@ unique f (fin t m e) (fin u n g) s a c C p q v w =
     ∙ ap (of_bits f) (ap (λ (b : Bool). to_bits f (fin b m e)) sign ∙ same_bits f u m n e g value)
     ∙ of_bits-to_bits f (fin u n g) q
 
-pub unique-units : (F : ℕ) (z : ℤ) {x y : Float} → T (fits binary64 x) → T (fits binary64 y) → HasUnits F x z → HasUnits F y z → x ≡ y
-unique-units F z {x} {y} p q v w = unique binary64 x y (isNegative z) (nat_abs z) (2 ^ F) (pow_pos F) p q v w
+pub unique_units : (F : ℕ) (z : ℤ) {x y : Float} → T (fits binary64 x) → T (fits binary64 y) → HasUnits F x z → HasUnits F y z → x ≡ y
+unique_units F z {x} {y} p q v w = unique binary64 x y (is_negative z) (nat_abs z) (2 ^ F) (pow_pos F) p q v w
 
 -- ---- THE VALUE OF A WRITTEN DOUBLE IS z/2^F, for every z
-pub double-value : (F : ℕ) (z : ℤ) → HasUnits F (doubleOf F z) z
-unfolding doubleOf
-double-value F z =
-    let s = isNegative z in
+pub double_value : (F : ℕ) (z : ℤ) → HasUnits F (double_of F z) z
+unfolding double_of
+double_value F z =
+    let s = is_negative z in
     let n = nat_abs z in
     subst (λ (k : ℕ). HasValue (odd (suc F) s n 0 F) s k (2 ^ F)) (mul-one n) (odd_sign (suc F) s n 0 F)
 
 -- ---- A WRITTEN DOUBLE IS A DOUBLE: below 2^(F+1) units nothing is too long for it
-minus-shift : (j a b : ℕ) → minus (j + a) (j + b) ≡ minus a b
-minus-shift j a b = go (leb (j + b) (j + a)) (leb b a) (leb→le (j + b) (j + a)) (nleb→lt (j + b) (j + a)) (leb→le b a) (nleb→lt b a)
+minus_shift : (j a b : ℕ) → minus (j + a) (j + b) ≡ minus a b
+minus_shift j a b = go (leb (j + b) (j + a)) (leb b a) (leb→le (j + b) (j + a)) (nleb→lt (j + b) (j + a)) (leb→le b a) (nleb→lt b a)
   where
     over : b ≤ a → j + a - (j + b) ≡ a - b
     over h = omega arith
@@ -76,17 +76,17 @@ minus-shift j a b = go (leb (j + b) (j + a)) (leb b a) (leb→le (j + b) (j + a)
     under : a < b → j + b - suc (j + a) ≡ b - suc a
     under h = omega arith
 
-    not-under : j + b ≤ j + a → a < b → ⊥
-    not-under h k = omega arith
+    not_under : j + b ≤ j + a → a < b → ⊥
+    not_under h k = omega arith
 
-    not-over : j + a < j + b → b ≤ a → ⊥
-    not-over h k = omega arith
+    not_over : j + a < j + b → b ≤ a → ⊥
+    not_over h k = omega arith
 
     go : (p q : Bool) → (T p → j + b ≤ j + a) → (T (not p) → j + a < j + b) → (T q → b ≤ a) → (T (not q) → a < b)
         → cond p (pos (j + a - (j + b))) (negsuc (j + b - suc (j + a))) ≡ cond q (pos (a - b)) (negsuc (b - suc a))
     go true true h h' k k' = ap pos (over (k tt))
-    go true false h h' k k' = absurd (not-under (h tt) (k' tt))
-    go false true h h' k k' = absurd (not-over (h' tt) (k tt))
+    go true false h h' k k' = absurd (not_under (h tt) (k' tt))
+    go false true h h' k k' = absurd (not_over (h' tt) (k tt))
     go false false h h' k k' = ap negsuc (under (k' tt))
 
 odd_shift : (d : ℕ) (s : Bool) (q j k l : ℕ) → odd d s q (j + k) (j + l) ≡ odd d s q k l
@@ -94,12 +94,12 @@ unfolding odd
 odd_shift d s zero j k l = refl
 odd_shift d s (suc q) j k l =
     let t = count_trailing_zeros d (suc q) in
-    ap (λ (e : ℤ). fin s (suc q / 2 ^ t) e) (ap (λ (a : ℕ). minus a (j + l)) (add_assoc j k t) ∙ minus-shift j (k + t) l)
+    ap (λ (e : ℤ). fin s (suc q / 2 ^ t) e) (ap (λ (a : ℕ). minus a (j + l)) (add_assoc j k t) ∙ minus_shift j (k + t) l)
 
-pub double-fits : (F : ℕ) (z : ℤ) → F ≤ 52 → nat_abs z < 2 ^ suc F → T (fits binary64 (doubleOf F z))
-unfolding doubleOf
-double-fits F z narrow h =
-    let s = isNegative z in
+pub double_fits : (F : ℕ) (z : ℤ) → F ≤ 52 → nat_abs z < 2 ^ suc F → T (fits binary64 (double_of F z))
+unfolding double_of
+double_fits F z narrow h =
+    let s = is_negative z in
     let n = nat_abs z in
     let j = 1074 - F + 0 in
     subst (λ (x : Float). T (fits binary64 x)) (odd_shift (suc F) s n (1074 - F) 0 F)
@@ -125,22 +125,22 @@ sign_kept : (t : Bool) → unlike t false ≡ t
 sign_kept true = refl
 sign_kept false = refl
 
-pub whole-value : (z : ℤ) → nat_abs z ≤ 2 ^ 53 → HasValue (of_int binary64 z) (isNegative z) (nat_abs z) 1
+pub whole_value : (z : ℤ) → nat_abs z ≤ 2 ^ 53 → HasValue (of_int binary64 z) (is_negative z) (nat_abs z) 1
 unfolding of_int
-whole-value (pos n) h = round_whole binary64 false n h
-whole-value (negsuc n) h = round_whole binary64 true (suc n) h
+whole_value (pos n) h = round_whole binary64 false n h
+whole_value (negsuc n) h = round_whole binary64 true (suc n) h
 
-pub in-double : (z : ℤ) → nat_abs z ≤ 2 ^ 53 → T (in_float binary64 z)
+pub in_double : (z : ℤ) → nat_abs z ≤ 2 ^ 53 → T (in_float binary64 z)
 unfolding in_float
-in-double (pos n) h = le→leb n (2 ^ 53) h
-in-double (negsuc n) h = lt→ltb n (2 ^ 53) h
+in_double (pos n) h = le→leb n (2 ^ 53) h
+in_double (negsuc n) h = lt→ltb n (2 ^ 53) h
 
-quotient-value : (F : ℕ) (x : Float) (s : Bool) (n : ℕ) → F ≤ 52 → n < 2 ^ 53 → HasValue x s n 1 →
+quotient_value : (F : ℕ) (x : Float) (s : Bool) (n : ℕ) → F ≤ 52 → n < 2 ^ 53 → HasValue x s n 1 →
     HasValue (div binary64 x (power F)) s n (2 ^ F)
 unfolding div
-quotient-value F nan s n narrow h v = absurd v
-quotient-value F (inf t) s n narrow h v = absurd v
-quotient-value F (fin t m e) s n narrow h v =
+quotient_value F nan s n narrow h v = absurd v
+quotient_value F (inf t) s n narrow h v = absurd v
+quotient_value F (fin t m e) s n narrow h v =
     let num : m * up e * 1 ≡ n * down e = v.1 in
     rw (sign_kept t, v.0, num, one-mul (2 ^ F))
     (rescale (round binary64 s (n * down e) (2 ^ F * down e)) s n (2 ^ F) (down e) (down_pos e)
@@ -161,11 +161,11 @@ quotient-value F (fin t m e) s n narrow h v =
     swap d a b = omega arith
 
 -- p is the code's 2^F
-pub written_is : (F : ℕ) (z : ℤ) {p : Float} → F ≤ 52 → nat_abs z < 2 ^ suc F → p ≡ power F → div binary64 (of_int binary64 z) p ≡ doubleOf F z
+pub written_is : (F : ℕ) (z : ℤ) {p : Float} → F ≤ 52 → nat_abs z < 2 ^ suc F → p ≡ power F → div binary64 (of_int binary64 z) p ≡ double_of F z
 written_is F z narrow h e =
     let whole = of_int binary64 z in
-    let exact = quotient-value F whole (isNegative z) (nat_abs z) narrow (short narrow h) (whole-value z (le_of_lt (short narrow h))) in
-    ap (div binary64 whole) e ∙ unique-units F z (div-fits binary64 whole (power F)) (double-fits F z narrow h) exact (double-value F z)
+    let exact = quotient_value F whole (is_negative z) (nat_abs z) narrow (short narrow h) (whole_value z (le_of_lt (short narrow h))) in
+    ap (div binary64 whole) e ∙ unique_units F z (div-fits binary64 whole (power F)) (double_fits F z narrow h) exact (double_value F z)
 
 -- ---- AND SO IS WHAT IT MULTIPLIES: a whole number of units times 2^F is that number
 pub product_value : (F : ℕ) (x : Float) (s : Bool) (n : ℕ) → n < 2 ^ 53 → HasValue x s n (2 ^ F) → HasValue (mul binary64 x (power F)) s n 1
@@ -184,10 +184,10 @@ product_value F (fin t m e) s n h v =
     swap d a = omega arith
 
 pub product_is : (F : ℕ) (x : Float) (z : ℤ) → nat_abs z < 2 ^ 53 → HasUnits F x z → mul binary64 x (power F) ≡ of_int binary64 z
-product_is F x z h v = unique binary64 (mul binary64 x (power F)) (of_int binary64 z) (isNegative z) (nat_abs z) 1 (zero-lt-suc 0)
+product_is F x z h v = unique binary64 (mul binary64 x (power F)) (of_int binary64 z) (is_negative z) (nat_abs z) 1 (zero-lt-suc 0)
     (mul-fits binary64 x (power F)) (of_int-fits binary64 z)
-    (product_value F x (isNegative z) (nat_abs z) h v) (whole-value z (le_of_lt h))
+    (product_value F x (is_negative z) (nat_abs z) h v) (whole_value z (le_of_lt h))
 
 pub whole_back : (z : ℤ) → nat_abs z < 2 ^ 53 → to_signed 63 (of_int binary64 z) ≡ z
-whole_back (pos n) h = (positive_back binary64 63 n (in-double (pos n) (le_of_lt h)) (lt_of_lt_of_le h (lit≤ tt))).1
-whole_back (negsuc n) h = (negative_back binary64 63 n (in-double (negsuc n) (le_of_lt h)) (le_trans (le_of_lt h) (lit≤ tt))).1
+whole_back (pos n) h = (positive_back binary64 63 n (in_double (pos n) (le_of_lt h)) (lt_of_lt_of_le h (lit≤ tt))).1
+whole_back (negsuc n) h = (negative_back binary64 63 n (in_double (negsuc n) (le_of_lt h)) (le_trans (le_of_lt h) (lit≤ tt))).1

@@ -2,7 +2,7 @@
 use Rattle.std.specs.Prelude.{ℕ, cond, Float}
 use Rattle.doubles.specs.declared.Part.{Part}
 use Rattle.doubles.specs.declared.Part.TheVariants.{Whole, Other}
-use Rattle.doubles.specs.Units.{isUnits, unitsOf}
+use Rattle.doubles.specs.Units.{is_units, units_of}
 
-unfoldable pub partIn : ℕ → Float → Part
-partIn F x = cond (isUnits F x) (Whole (unitsOf F x)) Other
+unfoldable pub part_in : ℕ → Float → Part
+part_in F x = cond (is_units F x) (Whole (units_of F x)) Other

@@ -4,34 +4,34 @@ use Rattle.std.specs.Float.{fin}
 use Rattle.point.specs.declared.Point.{Point}
 use Rattle.answer.specs.declared.Answer.{Answer}
 use Rattle.answer.specs.declared.Answer.TheVariants.{Answered, Refused}
-use Rattle.answer.specs.Refusal.{refusalNumber}
+use Rattle.answer.specs.Refusal.{refusal_number}
 use Rattle.doubles.specs.declared.Doubles.{Doubles}
 use Rattle.doubles.specs.declared.DoublesAnswer.{DoublesAnswer}
 use Rattle.doubles.specs.declared.UnitsAnswer.{UnitsAnswer}
-use Rattle.doubles.specs.Units.{HasUnits, doubleOf, isUnits, unitsOf}
+use Rattle.doubles.specs.Units.{HasUnits, double_of, is_units, units_of}
 
 -- ---- writing
 -- "a record of two doubles, each part divided by 2^48"
 abbrev pub doubles : ℕ → ℤ → ℤ → Doubles
-doubles F x y = record { x = doubleOf F x; y = doubleOf F y }
+doubles F x y = record { x = double_of F x; y = double_of F y }
 
 -- "two zeros": plus zero twice
 abbrev pub zeros : Doubles
 zeros = record { x = fin false 0 (pos 0); y = fin false 0 (pos 0) }
 
 -- "A LOG answer is given as a record of two doubles"; "A refused LOG gives its number and two zeros"
-unfoldable pub doublesAnswer : ℕ → Answer → DoublesAnswer
-doublesAnswer F (Answered f) = record { refusal = pos 0; parts = doubles F f.value.x f.value.y }
-doublesAnswer F (Refused r) = record { refusal = refusalNumber r; parts = zeros }
+unfoldable pub doubles_answer : ℕ → Answer → DoublesAnswer
+doubles_answer F (Answered f) = record { refusal = pos 0; parts = doubles F f.value.x f.value.y }
+doubles_answer F (Refused r) = record { refusal = refusal_number r; parts = zeros }
 
 -- ---- reading
 abbrev pub accepted : ℤ → ℤ → UnitsAnswer
 accepted x y = record { refusal = pos 0; x = x; y = y }
 
 -- "Refused: 9, a double of any other kind, with zeros; reading has no other refusal"
-unfoldable pub unitsAnswer : ℕ → Doubles → UnitsAnswer
-unitsAnswer F d = cond (isUnits F d.x && isUnits F d.y)
-    (accepted (unitsOf F d.x) (unitsOf F d.y))
+unfoldable pub units_answer : ℕ → Doubles → UnitsAnswer
+units_answer F d = cond (is_units F d.x && is_units F d.y)
+    (accepted (units_of F d.x) (units_of F d.y))
     (record { refusal = pos 9; x = pos 0; y = pos 0 })
 
 -- ---- nothing is lost
@@ -39,7 +39,7 @@ unitsAnswer F d = cond (isUnits F d.x && isUnits F d.y)
 pub record Kept (F : ℕ) (p : Point) (d : Doubles) : Type 0 where
   pub x : HasUnits F d.x p.x
   pub y : HasUnits F d.y p.y
-  pub back : unitsAnswer F d ≡ accepted p.x p.y
+  pub back : units_answer F d ≡ accepted p.x p.y
 
 -- of an answer, where there is one
 abbrev pub AnswerKept : ℕ → Answer → DoublesAnswer → Type 0

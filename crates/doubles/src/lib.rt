@@ -1,9 +1,9 @@
 // Doubles for the plotting desk (02, E8): LOG's two parts out as doubles, and such doubles read back.
 ghost use Rattle.std.specs.Prelude.{◌≡◌, ◌^◌, ◌<◌, unsigned_abs};
-ghost use Rattle.logarithm.specs.Answer.{logAnswer};
-ghost use Rattle.doubles.specs.Units.{doubleOf};
-ghost use Rattle.doubles.specs.Record.{doublesAnswer, AnswerKept, unitsAnswer, WrittenBack};
-ghost use Rattle.doubles.specs.Code.{partIn};
+ghost use Rattle.logarithm.specs.Answer.{log_answer};
+ghost use Rattle.doubles.specs.Units.{double_of};
+ghost use Rattle.doubles.specs.Record.{doubles_answer, AnswerKept, units_answer, WrittenBack};
+ghost use Rattle.doubles.specs.Code.{part_in};
 
 use answer::Answer;
 use point::Point;
@@ -55,7 +55,7 @@ const REFUSED: UnitsAnswer = UnitsAnswer {
 // A number of units as a double: neither the conversion nor the division rounds.
 fn write_part(units: i64) -> f64
     requires { unsigned_abs units < 2 ^ 49 }
-    ensures { result ≡ doubleOf 48 units }
+    ensures { result ≡ double_of 48 units }
 {
     units as f64 / ONE
 }
@@ -63,7 +63,7 @@ fn write_part(units: i64) -> f64
 // How many units x is. Of a whole number of units the product is exact, and its count written again has the bits of x; no other double has
 // those of the count that it is cut to.
 fn read_part(x: f64) -> Part
-    ensures { result ≡ partIn 48 x }
+    ensures { result ≡ part_in 48 x }
 {
     let product = x * ONE;
     if product > -LIMIT {
@@ -79,8 +79,8 @@ fn read_part(x: f64) -> Part
 }
 
 pub fn log_doubles(n: i64, p: Point) -> DoublesAnswer
-    ensures answer { result ≡ doublesAnswer 48 (logAnswer n p.x p.y) }
-    ensures kept { AnswerKept 48 (logAnswer n p.x p.y) result }
+    ensures answer { result ≡ doubles_answer 48 (log_answer n p.x p.y) }
+    ensures kept { AnswerKept 48 (log_answer n p.x p.y) result }
 {
     let answer = logarithm::log(n, p);
     match answer {
@@ -103,7 +103,7 @@ pub fn log_doubles(n: i64, p: Point) -> DoublesAnswer
 }
 
 pub fn read_doubles(d: Doubles) -> UnitsAnswer
-    ensures answer { result ≡ unitsAnswer 48 d }
+    ensures answer { result ≡ units_answer 48 d }
     ensures back { WrittenBack 48 d result }
 {
     let first = read_part(d.x);

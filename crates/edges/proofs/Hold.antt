@@ -10,25 +10,25 @@ use lib.Signed.{le_z}
 use Rattle.algebra.specs.Gauss.{𝔾, ιᵍ, negᵍ, ◌+ᵍ◌, ◌*ᵍ◌}
 use Rattle.algebra.specs.Order.{◌⩽◌}
 use Rattle.algebra.specs.Rounding.{nearest, floorᵍ}
-use Rattle.algebra.proofs.Gauss.{gi-path}
-use Rattle.algebra.proofs.Order.{⩽-antisym}
+use Rattle.algebra.proofs.Gauss.{gi_path}
+use Rattle.algebra.proofs.Order.{⩽_antisym}
 use Rattle.algebra.proofs.Test.{and_left, and_right}
 use Rattle.word.specs.Compare.{between}
 use Rattle.point.specs.Step.{quotient, step}
-use Rattle.point.specs.Limits.{inSteps, inBox, in_parts}
-use Rattle.answer.specs.Record.{recordOf}
-use Rattle.table_numbers.specs.Cell.{isCell, cell_of}
-use Rattle.table_numbers.specs.Numbers48.{stepLogs, reciprocalLogs, constants48}
+use Rattle.point.specs.Limits.{in_steps, in_box, in_parts}
+use Rattle.answer.specs.Record.{record_of}
+use Rattle.table_numbers.specs.Cell.{is_cell, cell_of}
+use Rattle.table_numbers.specs.Numbers48.{step_logs, reciprocal_logs, constants48}
 use Rattle.table_numbers.specs.Reciprocal.{reciprocal}
-use Rattle.table_numbers.specs.Rows.{reciprocalAt}
-use Rattle.table_numbers.specs.Table.{stepTable, reciprocalTable}
-use Rattle.iteration.specs.Select.{exp-select, cut-back, log-select}
+use Rattle.table_numbers.specs.Rows.{reciprocal_at}
+use Rattle.table_numbers.specs.Table.{step_table, reciprocal_table}
+use Rattle.iteration.specs.Select.{exp_select, cut_back, log_select}
 use Rattle.iteration.specs.Run.{select, next, run, digits}
-use Rattle.exponential.specs.Reduction.{inRectangle, inReach, factor, eighths, turned-re, doublings, left_over, reduction}
-use Rattle.exponential.specs.Answer.{answer, expAnswer}
-use Rattle.logarithm.specs.Reduction.{turn-back, turns-back, quarters, turned, spelling, quadrant, bits-from, bits, bit_length, binary-exponent, scaled, column, row, reduced}
-use Rattle.logarithm.specs.Answer.{is_zero, answer as log-answer, logAnswer}
-use Rattle.edges.specs.Cases.{Case, hands_out, exp-opens, log-opens, has-reciprocal, cases, Holds, All}
+use Rattle.exponential.specs.Reduction.{in_rectangle, in_reach, factor, eighths, turned_re, doublings, left_over, reduction}
+use Rattle.exponential.specs.Answer.{answer, exp_answer}
+use Rattle.logarithm.specs.Reduction.{turn_back, turns_back, quarters, turned, spelling, quadrant, bits_from, bits, bit_length, binary_exponent_of, scaled, column, row, reduced}
+use Rattle.logarithm.specs.Answer.{is_zero, answer as log-answer, log_answer}
+use Rattle.edges.specs.Cases.{Case, hands_out, exp_opens, log_opens, has_reciprocal, cases, Holds, All}
 
 -- ---- a statement with a test that shows it
 record Tested (P : Type 0) : Type 0 where
@@ -48,10 +48,10 @@ unfoldable at_most : (a b : ℤ) → Tested (a ⩽ b)
 at_most a b = record { test = le_z a b; shows = λ t. record { le = t } }
 
 unfoldable equal : (a b : ℤ) → Tested (a ≡ b)
-equal a b = by (λ p. ⩽-antisym p.0 p.1) (both (at_most a b) (at_most b a))
+equal a b = by (λ p. ⩽_antisym p.0 p.1) (both (at_most a b) (at_most b a))
 
 unfoldable equalᵍ : (z w : 𝔾) → Tested (z ≡ w)
-equalᵍ z w = by (λ p. gi-path p.0 p.1) (both (equal z.re w.re) (equal z.im w.im))
+equalᵍ z w = by (λ p. gi_path p.0 p.1) (both (equal z.re w.re) (equal z.im w.im))
 
 unfoldable equals : {A : Type 0} → ((x y : A) → Tested (x ≡ y)) → (xs ys : List A) → Tested (xs ≡ ys)
 equals f [] [] = record { test = true; shows = λ _. refl }
@@ -62,9 +62,9 @@ equals f (x ∷ xs) (y ∷ ys) = by (λ p. ap₂ (λ z zs. z ∷ zs) p.0 p.1) (b
 -- ---- the table's
 unfoldable tested : (c : Case) → Tested (Holds c)
 tested (hands_out c fs) = equals equal _ _
-tested (exp-opens e ds) = both (equals equalᵍ _ _) (both (equals equalᵍ _ _) (equals equalᵍ _ _))
-tested (log-opens p ds) = both (equals equalᵍ _ _) (both (equals equalᵍ _ _) (equals equalᵍ _ _))
-tested (has-reciprocal X Y c) = both (equalᵍ _ _) (equalᵍ _ _)
+tested (exp_opens e ds) = both (equals equalᵍ _ _) (both (equals equalᵍ _ _) (equals equalᵍ _ _))
+tested (log_opens p ds) = both (equals equalᵍ _ _) (both (equals equalᵍ _ _) (equals equalᵍ _ _))
+tested (has_reciprocal X Y c) = both (equalᵍ _ _) (equalᵍ _ _)
 
 -- the places of the cases whose test fails, the first case's being n
 unfoldable failing : ℕ → List Case → List ℕ
@@ -75,18 +75,18 @@ passes : {P : Type 0} (n : ℕ) (ns : List ℕ) (t : Bool) → (T t → P) → c
 passes n ns true p e = (p tt, e)
 passes n ns false p e = let z : ◌≡◌ {A = ℕ} 0 1 = cc in absurd (omega arith)
 
-none-failing : (n : ℕ) (cs : List Case) → failing n cs ≡ [] → All cs
+none_failing : (n : ℕ) (cs : List Case) → failing n cs ≡ [] → All cs
 unfolding failing
-none-failing n [] e = tt
-none-failing n (c ∷ cs) e =
+none_failing n [] e = tt
+none_failing n (c ∷ cs) e =
     let p = passes n (failing (suc n) cs) (tested c).test (tested c).shows e in
-    (p.0, none-failing (suc n) cs p.1)
+    (p.0, none_failing (suc n) cs p.1)
 
 -- THE STATEMENT: every case of the table holds
-pub cases-hold : All cases
-unfolding failing tested equals equalᵍ equal at_most both by recordOf expAnswer answer inSteps inReach inRectangle
-    reduction left_over doublings turned-re eighths factor constants48 in_parts inBox between logAnswer
-    log-answer is_zero digits run next select exp-select log-select cut-back stepTable stepLogs reciprocalTable reciprocalLogs cell_of isCell step
-    quotient quadrant spelling quarters turned turns-back turn-back binary-exponent bit_length bits bits-from scaled reduced column row
-    reciprocalAt reciprocal nearest floorᵍ ιᵍ negᵍ ◌+ᵍ◌ ◌*ᵍ◌
-cases-hold = none-failing 1 cases refl
+pub cases_hold : All cases
+unfolding failing tested equals equalᵍ equal at_most both by record_of exp_answer answer in_steps in_reach in_rectangle
+    reduction left_over doublings turned_re eighths factor constants48 in_parts in_box between log_answer
+    log-answer is_zero digits run next select exp_select log_select cut_back step_table step_logs reciprocal_table reciprocal_logs cell_of is_cell step
+    quotient quadrant spelling quarters turned turns_back turn_back binary_exponent_of bit_length bits bits_from scaled reduced column row
+    reciprocal_at reciprocal nearest floorᵍ ιᵍ negᵍ ◌+ᵍ◌ ◌*ᵍ◌
+cases_hold = none_failing 1 cases refl

@@ -8,9 +8,9 @@ use lib.Signed.{le_z, le_z_yes}
 use Rattle.algebra.specs.Order.{◌⩽◌, ◌⋖◌}
 use Rattle.algebra.specs.Size.{abs}
 use Rattle.algebra.proofs.Reify.{reify}
-use Rattle.algebra.proofs.Order.{nonneg-mul, sub-nonneg}
+use Rattle.algebra.proofs.Order.{nonneg_mul, sub_nonneg}
 use Rattle.algebra.proofs.Linear.{lin, lin<, ◌&◌, ◌&<◌, ◌&≡◌, none}
-use Rattle.algebra.proofs.Parts.{abs-below}
+use Rattle.algebra.proofs.Parts.{abs_below}
 use Rattle.table_numbers.specs.Window.{Span, Lies, Spans, pick}
 use Rattle.iteration.proofs.Digits.{Cut, minus, nought, plus}
 
@@ -36,13 +36,13 @@ Inside s = T (le_z (negsuc 4094) s.lo) × T (le_z s.hi (pos 4095))
 
 -- ---- what they show
 -- h' is the h of the next step; k/2048 of h is two units or more
-module _ (h h' k : ℤ) (half : h ≡ pos 2 *ℤ h') (sign : pos 0 ⩽ h) (two-units : pos 4096 ⩽ k *ℤ h) where
+module _ (h h' k : ℤ) (half : h ≡ pos 2 *ℤ h') (sign : pos 0 ⩽ h) (two_units : pos 4096 ⩽ k *ℤ h) where
   -- one digit
   one : (s v b : Span) (e w : ℤ) → Fit s v k b → Lies (pos 0) s h e → Lies (pos 2) v h w → Lies (pos 0) b h' (e -ℤ w)
   one s v b e w t p q = record {
-    low = lin ρ (nonneg-mul (sub-nonneg low') sign & p.low & q.high & two-units & ap (λ u. b.lo *ℤ u) half &≡ none)
+    low = lin ρ (nonneg_mul (sub_nonneg low') sign & p.low & q.high & two_units & ap (λ u. b.lo *ℤ u) half &≡ none)
         (search reify depth 20) tt;
-    high = lin ρ (nonneg-mul (sub-nonneg high') sign & p.high & q.low & two-units & ap (λ u. b.hi *ℤ u) half &≡ none)
+    high = lin ρ (nonneg_mul (sub_nonneg high') sign & p.high & q.low & two_units & ap (λ u. b.hi *ℤ u) half &≡ none)
         (search reify depth 20) tt;
   }
     where
@@ -71,9 +71,9 @@ module _ (h h' k : ℤ) (half : h ≡ pos 2 *ℤ h') (sign : pos 0 ⩽ h) (two-u
 
 -- below 2·h in size
 pub ends : (s : Span) (h e : ℤ) → pos 1 ⩽ h → Inside s → Lies (pos 0) s h e → abs e ⋖ pos 2 *ℤ h
-ends s h e g t p = abs-below
-    (lin< (s.lo ∷ h ∷ e ∷ []) (nonneg-mul (sub-nonneg low') (sub-nonneg g) & low' & g & p.low & none) (search reify depth 20) tt)
-    (lin< (s.hi ∷ h ∷ e ∷ []) (nonneg-mul (sub-nonneg high') (sub-nonneg g) & high' & g & p.high & none) (search reify depth 20) tt)
+ends s h e g t p = abs_below
+    (lin< (s.lo ∷ h ∷ e ∷ []) (nonneg_mul (sub_nonneg low') (sub_nonneg g) & low' & g & p.low & none) (search reify depth 20) tt)
+    (lin< (s.hi ∷ h ∷ e ∷ []) (nonneg_mul (sub_nonneg high') (sub_nonneg g) & high' & g & p.high & none) (search reify depth 20) tt)
   where
     low' : negsuc 4094 ⩽ s.lo
     low' = le_z_yes t.0

@@ -13,28 +13,28 @@ use Rattle.algebra.specs.Size.{larger, Size, Parts}
 use Rattle.algebra.proofs.Reify.{reify}
 use Rattle.algebra.proofs.Order.{nonneg_pos}
 use Rattle.algebra.proofs.Linear.{lin, ◌&◌, ◌&ℕ◌, none}
-use Rattle.algebra.proofs.Power.{two-mono}
-use Rattle.algebra.proofs.Larger.{larger-parts, larger-le}
-use Rattle.algebra.proofs.Parts.{parts-weaken, parts-cancel, size-add, size-neg, size-sign}
-use Rattle.word.proofs.Fits.{sfits-size}
-use Rattle.word.proofs.Shift.{CeilingFits, ceiling-fits}
+use Rattle.algebra.proofs.Power.{two_mono}
+use Rattle.algebra.proofs.Larger.{larger_parts, larger_le}
+use Rattle.algebra.proofs.Parts.{parts_weaken, parts_cancel, size_add, size_neg, size_sign}
+use Rattle.word.proofs.Fits.{sfits_size}
+use Rattle.word.proofs.Shift.{CeilingFits, ceiling_fits}
 use Rattle.point.specs.Point.{gauss}
-use Rattle.point.proofs.InLimits.{steps-say}
+use Rattle.point.proofs.InLimits.{steps_say}
 use Rattle.table_numbers.specs.Promise.{StepTable, Constants}
 use Rattle.table_numbers.specs.Numbers48.{constants48}
-use Rattle.table_numbers.specs.Table.{stepTable}
+use Rattle.table_numbers.specs.Table.{step_table}
 use Rattle.table_numbers.proofs.Promises.{StepPromise, ConstantsPromise}
-use Rattle.table_numbers.proofs.Promise48.{constants-promise}
-use Rattle.tables.proofs.Promises.{step-promise}
+use Rattle.table_numbers.proofs.Promise48.{constants_promise}
+use Rattle.tables.proofs.Promises.{step_promise}
 use Rattle.iteration.specs.declared.Mode.TheVariants.{Exp}
 use Rattle.iteration.specs.Run.{state, Fits}
-use Rattle.iteration.proofs.Drift.{exact-start, exact-run, exact-size}
+use Rattle.iteration.proofs.Drift.{exact_start, exact_run, exact_size}
 use Rattle.exponential.specs.declared.reduction.Reduced.{Reduced}
 use Rattle.exponential.specs.Reduction.{reduction}
-use Rattle.exponential.specs.Answer.{rounding-share, errorBound, begun}
+use Rattle.exponential.specs.Answer.{rounding_share, error_bound_of, begun}
 use Rattle.exponential.specs.Code.{Accepted}
 use Rattle.exponential.proofs.Convergence.{Rectangle, below_parts, converges}
-use Rattle.exponential.proofs.Given.{given-rectangle, given-start, given-exponent}
+use Rattle.exponential.proofs.Given.{given_rectangle, given_start, given_exponent}
 
 -- ---- the run: a start of parts up to 2^59 grows to 1089/280 of it, and the rounding; the exponent stays below one
 module _ (F : ℕ) (wide : 16 ≤ F) (narrow : F ≤ 48) (t : StepTable) (promise : StepPromise F (F - 8) t) where
@@ -43,11 +43,11 @@ module _ (F : ℕ) (wide : 16 ≤ F) (narrow : F ≤ 48) (t : StepTable) (promis
     least = omega arith;
     most = omega arith;
     small = λ j l. record {
-      point = parts-cancel (pos 280) (record { le = tt })
-          (parts-weaken (exact-size (exact-run F t Exp 0 j j (state s e) (omega arith) exact-start) given)
-          (lin (pos j ∷ two (F + 11) ∷ []) (few j l &ℕ two-mono (F + 11) 59 (omega arith) & none) (search reify depth 20) tt));
-      sum = parts-weaken (below_parts (converges F (F - 8) wide (omega arith) t promise (state s e) rect j (omega arith)))
-          (two-mono (F - j) 61 (omega arith));
+      point = parts_cancel (pos 280) (record { le = tt })
+          (parts_weaken (exact_size (exact_run F t Exp 0 j j (state s e) (omega arith) exact_start) given)
+          (lin (pos j ∷ two (F + 11) ∷ []) (few j l &ℕ two_mono (F + 11) 59 (omega arith) & none) (search reify depth 20) tt));
+      sum = parts_weaken (below_parts (converges F (F - 8) wide (omega arith) t promise (state s e) rect j (omega arith)))
+          (two_mono (F - j) 61 (omega arith));
     };
   }
     where
@@ -57,36 +57,36 @@ module _ (F : ℕ) (wide : 16 ≤ F) (narrow : F ≤ 48) (t : StepTable) (promis
 -- ---- the error bound, M being m
 pub record BoundFits (n : ℕ) (m : ℤ) : Type 0 where
   pub up : CeilingFits (negsuc 7) m (pos 8 *ℤ two 59) n
-  pub share : SFits w64 (rounding-share *ℤ pos n)
-  pub bound : SFits w64 (rounding-share *ℤ pos n -ℤ shr_z (negsuc 7 *ℤ m) (2 ^ n))
+  pub share : SFits w64 (rounding_share *ℤ pos n)
+  pub bound : SFits w64 (rounding_share *ℤ pos n -ℤ shr_z (negsuc 7 *ℤ m) (2 ^ n))
 
-pub bound-fits : (F n : ℕ) {s : 𝔾} → F ≤ 48 → n ≤ F - 8 → Parts s (two (F + 11)) → BoundFits n (larger s)
-bound-fits F n {s} narrow h given = record {
+pub bound_fits : (F n : ℕ) {s : 𝔾} → F ≤ 48 → n ≤ F - 8 → Parts s (two (F + 11)) → BoundFits n (larger s)
+bound_fits F n {s} narrow h given = record {
   up = up;
-  share = sfits-size share tt;
-  bound = sfits-size (size-add share (size-neg up.size)) tt;
+  share = sfits_size share tt;
+  bound = sfits_size (size_add share (size_neg up.size)) tt;
 }
   where
     up : CeilingFits (negsuc 7) (larger s) (pos 8 *ℤ two 59) n
-    up = ceiling-fits {c = negsuc 7} {a = pos 8} {b = two 59} n (record { lo = record { le = tt }; hi = record { le = tt } })
+    up = ceiling_fits {c = negsuc 7} {a = pos 8} {b = two 59} n (record { lo = record { le = tt }; hi = record { le = tt } })
         (record {
-          lo = lin (larger s ∷ []) (size-sign (larger-parts s).re & none) (search reify depth 20) tt;
-          hi = larger-le (parts-weaken given (two-mono (F + 11) 59 (omega arith)));
+          lo = lin (larger s ∷ []) (size_sign (larger_parts s).re & none) (search reify depth 20) tt;
+          hi = larger_le (parts_weaken given (two_mono (F + 11) 59 (omega arith)));
         }) tt tt
 
     few : n ≤ 40
     few = omega arith
 
-    share : Size (rounding-share *ℤ pos n) (rounding-share *ℤ pos 40)
+    share : Size (rounding_share *ℤ pos n) (rounding_share *ℤ pos 40)
     share = record {
       lo = lin (pos n ∷ []) (nonneg_pos n & none) (search reify depth 20) tt;
       hi = lin (pos n ∷ []) (few &ℕ none) (search reify depth 20) tt;
     }
 
-pub bound-is : (n : ℕ) (s : 𝔾) → BoundFits n (larger s) → rounding-share *ℤ pos n -ℤ shr_z (negsuc 7 *ℤ larger s) (2 ^ n) ≡ errorBound n s
-unfolding errorBound
-bound-is n s f = ap (λ u. rounding-share *ℤ pos n +ℤ u) f.up.made
-    ∙ +ℤ_comm (rounding-share *ℤ pos n) (ceiling (pos 8 *ℤ larger s) (2 ^ n))
+pub bound_is : (n : ℕ) (s : 𝔾) → BoundFits n (larger s) → rounding_share *ℤ pos n -ℤ shr_z (negsuc 7 *ℤ larger s) (2 ^ n) ≡ error_bound_of n s
+unfolding error_bound_of
+bound_is n s f = ap (λ u. rounding_share *ℤ pos n +ℤ u) f.up.made
+    ∙ +ℤ_comm (rounding_share *ℤ pos n) (ceiling (pos 8 *ℤ larger s) (2 ^ n))
 
 -- ---- what an accepted input is reduced to
 pub record ReducedFits (F : ℕ) (t : StepTable) (n : ℕ) (r : Reduced) : Type 0 where
@@ -95,13 +95,13 @@ pub record ReducedFits (F : ℕ) (t : StepTable) (n : ℕ) (r : Reduced) : Type 
   pub doublings : SFits w64 r.binary_exponent
   pub steps : Fits F t Exp 0 n (begun r)
 
-pub reduced-fits : (F : ℕ) (wide : 16 ≤ F) (narrow : F ≤ 48) (t : StepTable) → StepPromise F (F - 8) t → (c : Constants) → ConstantsPromise F c →
+pub reduced_fits : (F : ℕ) (wide : 16 ≤ F) (narrow : F ≤ 48) (t : StepTable) → StepPromise F (F - 8) t → (c : Constants) → ConstantsPromise F c →
     {n : ℤ} {e s : 𝔾} → Accepted F n e s → ReducedFits F t (nat_abs n) (reduction F c e s)
-reduced-fits F wide narrow t table c promise {n} {e} {s} p = record {
+reduced_fits F wide narrow t table c promise {n} {e} {s} p = record {
   few = few;
   start = start;
-  doublings = sfits-size (given-exponent F (omega arith) c promise e s p.reach) tt;
-  steps = run_fits F wide narrow t table (nat_abs n) (gauss r.exponent) (gauss r.start) few (given-rectangle F (omega arith) c promise e s)
+  doublings = sfits_size (given_exponent F (omega arith) c promise e s p.reach) tt;
+  steps = run_fits F wide narrow t table (nat_abs n) (gauss r.exponent) (gauss r.start) few (given_rectangle F (omega arith) c promise e s)
       start;
 }
   where
@@ -109,12 +109,12 @@ reduced-fits F wide narrow t table c promise {n} {e} {s} p = record {
     r = reduction F c e s
 
     few : nat_abs n ≤ F - 8
-    few = (steps-say F 1 n p.steps).at_most
+    few = (steps_say F 1 n p.steps).at_most
 
     start : Parts (gauss r.start) (two (F + 11))
-    start = given-start F (omega arith) c promise e s p.start
+    start = given_start F (omega arith) c promise e s p.start
 
 -- at the width 48, of what the code reduced
-pub fits-48 : {n : ℤ} {e s : 𝔾} {r : Reduced} → Accepted 48 n e s → r ≡ reduction 48 constants48 e s → ReducedFits 48 stepTable (nat_abs n) r
-fits-48 {n} p given = subst (ReducedFits 48 stepTable (nat_abs n)) (sym given)
-    (reduced-fits 48 (omega arith) (omega arith) stepTable step-promise constants48 constants-promise p)
+pub fits_48 : {n : ℤ} {e s : 𝔾} {r : Reduced} → Accepted 48 n e s → r ≡ reduction 48 constants48 e s → ReducedFits 48 step_table (nat_abs n) r
+fits_48 {n} p given = subst (ReducedFits 48 step_table (nat_abs n)) (sym given)
+    (reduced_fits 48 (omega arith) (omega arith) step_table step_promise constants48 constants_promise p)

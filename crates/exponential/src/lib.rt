@@ -4,7 +4,7 @@ ghost use Rattle.algebra.specs.Size.{Size, Parts, abs, larger};
 ghost use Rattle.algebra.specs.Gauss.{two};
 ghost use Rattle.point.specs.Point.{gauss};
 ghost use Rattle.answer.specs.Remainder.{RemainderBelow};
-ghost use Rattle.exponential.specs.Answer.{errorBound, expAnswer, expBeginning, Close};
+ghost use Rattle.exponential.specs.Answer.{error_bound_of, exp_answer, exp_beginning, Close};
 ghost use Rattle.exponential.specs.Code.{Right};
 
 use answer::{Answer, Figures, Refusal};
@@ -37,7 +37,7 @@ fn larger_part(p: Point) -> i64
 fn error_bound(n: usize, s: Point) -> i64
     requires n_bound { n ≤ 40 }
     requires parts { Parts (gauss s) (two 59) }
-    ensures { result ≡ errorBound n (gauss s) }
+    ensures { result ≡ error_bound_of n (gauss s) }
 {
     let m = larger_part(s);
     let down = (-8 * m) >> n;
@@ -71,7 +71,7 @@ fn test(n: i64, exponent: Point, start: Point) -> Verdict
 // The start times the exponential of the exponent, by n steps: value times 2^binary_exponent. What the steps leave of the exponent that they
 // are given is the remainder.
 pub fn exp(n: i64, exponent: Point, start: Point) -> Answer
-    ensures answer { result ≡ expAnswer n exponent.x exponent.y start.x start.y }
+    ensures answer { result ≡ exp_answer n exponent.x exponent.y start.x start.y }
     ensures close { Close n exponent.x exponent.y start.x start.y result }
     ensures remainder { RemainderBelow 48 n result }
 {
@@ -108,7 +108,7 @@ pub fn exp(n: i64, exponent: Point, start: Point) -> Answer
 // EXP before its first step, for a second engine: the start and the exponent that the steps are given stand where the value and the remainder
 // will.
 pub fn begin(n: i64, exponent: Point, start: Point) -> Answer
-    ensures { result ≡ expBeginning n exponent.x exponent.y start.x start.y }
+    ensures { result ≡ exp_beginning n exponent.x exponent.y start.x start.y }
 {
     let verdict = test(n, exponent, start);
     if let Verdict::Failed(r) = verdict {

@@ -7,7 +7,7 @@ ghost use Rattle.algebra.specs.Size.{Parts};
 ghost use Rattle.point.specs.Digit.{IsDigit};
 ghost use Rattle.point.specs.Point.{gauss, gaussᵈ, point, nought};
 ghost use Rattle.table_numbers.specs.Numbers48.{constants48};
-ghost use Rattle.exponential.specs.Reduction.{inRectangle, inReach, eight, reduced, reduction};
+ghost use Rattle.exponential.specs.Reduction.{in_rectangle, in_reach, eight, reduced, reduction};
 ghost use Rattle.exponential.specs.Code.{NearestPre};
 
 use point::{Digit, Point};
@@ -29,7 +29,7 @@ pub struct Reduced {
 
 // Whether an exponent lies in the rectangle of 01.
 fn is_near(exponent: Point) -> bool
-    ensures { result ≡ inRectangle 48 (gauss exponent) }
+    ensures { result ≡ in_rectangle 48 (gauss exponent) }
 {
     exponent.is_in_box(
         -233096465088512,
@@ -41,7 +41,7 @@ fn is_near(exponent: Point) -> bool
 
 // Whether both parts are at most 8 in size. Near ones are asked for first, so that they cost no further test.
 pub fn is_in_reach(exponent: Point) -> bool
-    ensures { result ≡ inReach 48 (gauss exponent) }
+    ensures { result ≡ in_reach 48 (gauss exponent) }
 {
     let least: i64 = -2251799813685248;
     let most: i64 = 2251799813685248;

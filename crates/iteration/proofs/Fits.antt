@@ -13,11 +13,11 @@ use Rattle.algebra.specs.Size.{Size, Parts}
 use Rattle.algebra.proofs.Integer.{ℤR}
 use Rattle.algebra.proofs.Reify.{ring!, reify}
 use Rattle.algebra.proofs.Linear.{lin, ◌&◌, none}
-use Rattle.algebra.proofs.Power.{two≥1, two-mono, two-part}
-use Rattle.algebra.proofs.Parts.{size-add, size-neg, size-mul}
-use Rattle.word.proofs.Fits.{zero-sub, sfits-size, sfits_neg}
-use Rattle.word.proofs.Shift.{shift-constant-word}
-use Rattle.iteration.specs.Select.{low_x, high-x, low-y, half}
+use Rattle.algebra.proofs.Power.{two≥1, two_mono, two_part}
+use Rattle.algebra.proofs.Parts.{size_add, size_neg, size_mul}
+use Rattle.word.proofs.Fits.{zero_sub, sfits_size, sfits_neg}
+use Rattle.word.proofs.Shift.{shift_constant_word}
+use Rattle.iteration.specs.Select.{low_x, high_x, low_y, half}
 use Rattle.iteration.specs.Code.{BackPre, LessPre}
 
 -- ---- the thresholds of step n: EXP's in 16ths of 1/2^n, LOG's half of it
@@ -26,39 +26,39 @@ module _ (F n : ℕ) (narrow : F ≤ 48) (h : n + 8 ≤ F) where
   sixteenth = two (F - 4 - n)
 
   -- so many powers of two up to 2^F make a word
-  pub times-fits : (c : ℤ) (m : ℕ) → Size c (pos 13) → m ≤ F → SFits w64 (c *ℤ two m)
-  times-fits c m s g = sfits-size (size-mul s (record {
-    lo = lin (two m ∷ two 48 ∷ []) (two-mono m 48 (omega arith) & two≥1 m & none) (search reify depth 20) tt;
-    hi = two-mono m 48 (omega arith);
+  pub times_fits : (c : ℤ) (m : ℕ) → Size c (pos 13) → m ≤ F → SFits w64 (c *ℤ two m)
+  times_fits c m s g = sfits_size (size_mul s (record {
+    lo = lin (two m ∷ two 48 ∷ []) (two_mono m 48 (omega arith) & two≥1 m & none) (search reify depth 20) tt;
+    hi = two_mono m 48 (omega arith);
   })) tt
 
   shifted : (m : ℕ) → n ≤ m → m ≤ F → to_z w64 (of_z w64 (shr_z (pos 1 *ℤ two m) (2 ^ n))) ≡ two (m - n)
-  shifted m l g = shift-constant-word (pos 1) m n l (times-fits (pos 1) m (record { lo = record { le = tt }; hi = record { le = tt } }) g)
+  shifted m l g = shift_constant_word (pos 1) m n l (times_fits (pos 1) m (record { lo = record { le = tt }; hi = record { le = tt } }) g)
       ∙ ring! ℤR (two (m - n) ∷ []) (search reify depth 20) tt
 
-  pub sixteenth-word : to_z w64 (of_z w64 (shr_z (pos 1 *ℤ two (F - 4)) (2 ^ n))) ≡ sixteenth
-  sixteenth-word = shifted (F - 4) (omega arith) (omega arith)
+  pub sixteenth_word : to_z w64 (of_z w64 (shr_z (pos 1 *ℤ two (F - 4)) (2 ^ n))) ≡ sixteenth
+  sixteenth_word = shifted (F - 4) (omega arith) (omega arith)
 
-  pub half-word : to_z w64 (of_z w64 (shr_z (pos 1 *ℤ two (F - 1)) (2 ^ n))) ≡ half F n
-  half-word = shifted (F - 1) (omega arith) (omega arith) ∙ ap two same
+  pub half_word : to_z w64 (of_z w64 (shr_z (pos 1 *ℤ two (F - 1)) (2 ^ n))) ≡ half F n
+  half_word = shifted (F - 1) (omega arith) (omega arith) ∙ ap two same
     where
       same : F - 1 - n ≡ F - suc n
       same = omega arith
 
-  in-sixteenths : (k j : ℕ) → k + j ≡ 4 → two k *ℤ sixteenth ≡ two (F - j - n)
-  in-sixteenths k j e = ap (λ i. two k *ℤ two i) same ∙ two-part k (F - j) n (omega (arith, e))
+  in_sixteenths : (k j : ℕ) → k + j ≡ 4 → two k *ℤ sixteenth ≡ two (F - j - n)
+  in_sixteenths k j e = ap (λ i. two k *ℤ two i) same ∙ two_part k (F - j) n (omega (arith, e))
     where
       same : F - 4 - n ≡ F - j - k - n
       same = omega (arith, e)
 
-  pub low-x-is : negsuc 7 *ℤ sixteenth ≡ low_x F n
-  low-x-is = ring! ℤR (sixteenth ∷ []) (search reify depth 20) tt ∙ ap neg_ℤ (in-sixteenths 3 1 refl)
+  pub low_x_is : negsuc 7 *ℤ sixteenth ≡ low_x F n
+  low_x_is = ring! ℤR (sixteenth ∷ []) (search reify depth 20) tt ∙ ap neg_ℤ (in_sixteenths 3 1 refl)
 
-  pub high-x-is : pos 6 *ℤ sixteenth ≡ high-x F n
-  high-x-is = ring! ℤR (sixteenth ∷ []) (search reify depth 20) tt ∙ ap (λ u. pos 3 *ℤ u) (in-sixteenths 1 3 refl)
+  pub high_x_is : pos 6 *ℤ sixteenth ≡ high_x F n
+  high_x_is = ring! ℤR (sixteenth ∷ []) (search reify depth 20) tt ∙ ap (λ u. pos 3 *ℤ u) (in_sixteenths 1 3 refl)
 
-  pub low-y-is : negsuc 11 *ℤ sixteenth ≡ low-y F n
-  low-y-is = ring! ℤR (sixteenth ∷ []) (search reify depth 20) tt ∙ ap (λ u. neg_ℤ (pos 3 *ℤ u)) (in-sixteenths 2 2 refl)
+  pub low_y_is : negsuc 11 *ℤ sixteenth ≡ low_y F n
+  low_y_is = ring! ℤR (sixteenth ∷ []) (search reify depth 20) tt ∙ ap (λ u. neg_ℤ (pos 3 *ℤ u)) (in_sixteenths 2 2 refl)
 
 -- ---- the thresholds around a part of one
 pub record BackFits (t one : ℤ) : Type 0 where
@@ -67,8 +67,8 @@ pub record BackFits (t one : ℤ) : Type 0 where
 
 pub back_fits : {t one : ℤ} → BackPre t one → BackFits t one
 back_fits h = record {
-  above = sfits-size (size-add h.centre h.most) tt;
-  below = sfits-size (size-add h.centre (size-neg h.most)) tt;
+  above = sfits_size (size_add h.centre h.most) tt;
+  below = sfits_size (size_add h.centre (size_neg h.most)) tt;
 }
 
 -- half of 1/2^n around one and around nought
@@ -76,8 +76,8 @@ pub around : (F n : ℕ) → F ≤ 48 → {one : ℤ} → Size one (two 48) → 
 around F n narrow o = record {
   least = two≥1 _;
   most = record {
-    lo = lin (half F n ∷ two 48 ∷ []) (two-mono (F - suc n) 48 (omega arith) & two≥1 (F - suc n) & none) (search reify depth 20) tt;
-    hi = two-mono (F - suc n) 48 (omega arith);
+    lo = lin (half F n ∷ two 48 ∷ []) (two_mono (F - suc n) 48 (omega arith) & two≥1 (F - suc n) & none) (search reify depth 20) tt;
+    hi = two_mono (F - suc n) 48 (omega arith);
   };
   centre = o;
 }
@@ -88,18 +88,18 @@ pub record LessFits (e z : 𝔾) : Type 0 where
   pub y : SFits w64 e.im
   pub re : SFits w64 z.re
   pub im : SFits w64 z.im
-  pub new-x : SFits w64 (e.re -ℤ z.re)
-  pub new-y : SFits w64 (e.im -ℤ z.im)
+  pub new_x : SFits w64 (e.re -ℤ z.re)
+  pub new_y : SFits w64 (e.im -ℤ z.im)
 
-pub less-fits : {e z : 𝔾} → LessPre e z → LessFits e z
+pub less_fits : {e z : 𝔾} → LessPre e z → LessFits e z
 unfolding ◌+ᵍ◌ negᵍ
-less-fits {e} {z} h = record {
-  x = sfits-size h.sum.re tt;
-  y = sfits-size h.sum.im tt;
-  re = sfits-size (taken h.sum.re h.left.re) tt;
-  im = sfits-size (taken h.sum.im h.left.im) tt;
-  new-x = sfits-size h.left.re tt;
-  new-y = sfits-size h.left.im tt;
+less_fits {e} {z} h = record {
+  x = sfits_size h.sum.re tt;
+  y = sfits_size h.sum.im tt;
+  re = sfits_size (taken h.sum.re h.left.re) tt;
+  im = sfits_size (taken h.sum.im h.left.im) tt;
+  new_x = sfits_size h.left.re tt;
+  new_y = sfits_size h.left.im tt;
 }
   where
     taken : {x y : ℤ} → Size x (two 61) → Size (x -ℤ y) (two 61) → Size y (two 61 *ℤ pos 2)

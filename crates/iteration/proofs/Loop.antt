@@ -10,14 +10,14 @@ use Rattle.point.specs.Digit.{IsDigit}
 use Rattle.point.specs.Point.{gauss, gaussᵈ, digit}
 use Rattle.point.specs.Step.{step}
 use Rattle.table_numbers.specs.declared.Entry.{Entry}
-use Rattle.table_numbers.specs.Listed.{byDigit}
+use Rattle.table_numbers.specs.Listed.{by_digit}
 use Rattle.table_numbers.specs.Promise.{StepTable, look}
 use Rattle.table_numbers.specs.Rows.{number, none as no-entry}
 use Rattle.iteration.specs.declared.State.{State}
 use Rattle.iteration.specs.declared.Mode.{Mode}
 use Rattle.iteration.specs.Run.{state, select, next, moved, run, Small, Fits}
 use Rattle.iteration.specs.Code.{StepPre, step_of}
-use Rattle.iteration.proofs.Digits.{select-digit}
+use Rattle.iteration.proofs.Digits.{select_digit}
 
 -- ---- the steps that are left after step k
 module _ {F : ℕ} {t : StepTable} {mode : Mode} {k n : ℕ} {x : State} (f : Fits F t mode k n x) where
@@ -40,19 +40,19 @@ module _ {F : ℕ} {t : StepTable} {mode : Mode} {k n : ℕ} {x : State} (f : Fi
 -- ---- a step of the code, by the digit of its mode and the entry of that digit
 module _ (F : ℕ) (t : StepTable) (mode : Mode) (k : ℕ) (s : State) (d : Digit) (row : List Entry)
     (chosen : d ≡ digit (select F mode (suc k) s))
-    (found : number (byDigit row no-entry d.dy) ≡ look t (suc k) (gaussᵈ d)) where
-  entry-is : number (byDigit row no-entry d.dy) ≡ look t (suc k) (select F mode (suc k) s)
-  entry-is = found ∙ ap (λ x. look t (suc k) (gaussᵈ x)) chosen
+    (found : number (by_digit row no-entry d.dy) ≡ look t (suc k) (gaussᵈ d)) where
+  entry_is : number (by_digit row no-entry d.dy) ≡ look t (suc k) (select F mode (suc k) s)
+  entry_is = found ∙ ap (λ x. look t (suc k) (gaussᵈ x)) chosen
 
   pub step_is : step_of s d row (suc k) ≡ moved F t mode (suc k) s
   unfolding next
-  step_is = ap₂ (λ x z. state (step (suc k) (gaussᵈ x) (gauss s.point)) (gauss s.sum -ᵍ z)) chosen entry-is
+  step_is = ap₂ (λ x z. state (step (suc k) (gaussᵈ x) (gauss s.point)) (gauss s.sum -ᵍ z)) chosen entry_is
 
   pub step_ok : {n : ℕ} → F ≤ 48 → Fits F t mode k n s → k < n → StepPre s d row (suc k)
   unfolding next
   step_ok narrow f h = record {
     small = here f;
-    digit = subst (λ x. IsDigit (gaussᵈ x)) (sym chosen) (select-digit F mode (suc k) s);
+    digit = subst (λ x. IsDigit (gaussᵈ x)) (sym chosen) (select_digit F mode (suc k) s);
     count = omega (arith, f.most);
-    left = subst (λ z. Parts (gauss s.sum -ᵍ z) (two 61)) (sym entry-is) (here (onward f h)).sum;
+    left = subst (λ z. Parts (gauss s.sum -ᵍ z) (two 61)) (sym entry_is) (here (onward f h)).sum;
   }

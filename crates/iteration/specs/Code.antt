@@ -8,7 +8,7 @@ use Rattle.point.specs.Digit.{IsDigit}
 use Rattle.point.specs.Point.{gauss, gaussᵈ}
 use Rattle.point.specs.Step.{step}
 use Rattle.table_numbers.specs.declared.Entry.{Entry}
-use Rattle.table_numbers.specs.Listed.{byDigit}
+use Rattle.table_numbers.specs.Listed.{by_digit}
 use Rattle.table_numbers.specs.Rows.{number, none as no-entry}
 use Rattle.iteration.specs.declared.State.{State}
 use Rattle.iteration.specs.Run.{state, Small}
@@ -28,7 +28,7 @@ pub record StepPre (s : State) (d : Digit) (row : List Entry) (n : ℕ) : Type 0
   pub small : Small s
   pub digit : IsDigit (gaussᵈ d)
   pub count : n < 63
-  pub left : Parts (gauss s.sum -ᵍ number (byDigit row no-entry d.dy)) (two 61)
+  pub left : Parts (gauss s.sum -ᵍ number (by_digit row no-entry d.dy)) (two 61)
 
 abbrev pub step_of : State → Digit → List Entry → ℕ → State
-step_of s d row n = state (step n (gaussᵈ d) (gauss s.point)) (gauss s.sum -ᵍ number (byDigit row no-entry d.dy))
+step_of s d row n = state (step n (gaussᵈ d) (gauss s.point)) (gauss s.sum -ᵍ number (by_digit row no-entry d.dy))

@@ -8,21 +8,21 @@ use Rattle.algebra.specs.Gauss.{𝔾, gi, two}
 abbrev pub low_x : ℕ → ℕ → ℤ
 low_x F n = neg_ℤ (two (F - 1 - n))
 
-abbrev pub high-x : ℕ → ℕ → ℤ
-high-x F n = pos 3 *ℤ two (F - 3 - n)
+abbrev pub high_x : ℕ → ℕ → ℤ
+high_x F n = pos 3 *ℤ two (F - 3 - n)
 
-abbrev pub low-y : ℕ → ℕ → ℤ
-low-y F n = neg_ℤ (pos 3 *ℤ two (F - 2 - n))
+abbrev pub low_y : ℕ → ℕ → ℤ
+low_y F n = neg_ℤ (pos 3 *ℤ two (F - 2 - n))
 
-abbrev pub high-y : ℕ → ℕ → ℤ
-high-y F n = pos 13 *ℤ two (F - 4 - n)
+abbrev pub high_y : ℕ → ℕ → ℤ
+high_y F n = pos 13 *ℤ two (F - 4 - n)
 
 -- −1 below lo, 1 from hi on, else 0
 abbrev pub cut : ℤ → ℤ → ℤ → ℤ
 cut lo hi x = cond (lt_z x lo) (negsuc 0) (cond (lt_z x hi) (pos 0) (pos 1))
 
-unfoldable pub exp-select : ℕ → ℕ → 𝔾 → 𝔾
-exp-select F n e = gi (cut (low_x F n) (high-x F n) e.re) (cut (low-y F n) (high-y F n) e.im)
+unfoldable pub exp_select : ℕ → ℕ → 𝔾 → 𝔾
+exp_select F n e = gi (cut (low_x F n) (high_x F n) e.re) (cut (low_y F n) (high_y F n) e.im)
 
 -- ---- LOG, from the point v: "let u be the point less one. dx = 1 if ux ≤ −2^(47−n), −1 if ux ≥ 2^(47−n), else 0; dy likewise from uy"
 -- half of 1/2^n in units
@@ -30,8 +30,8 @@ abbrev pub half : ℕ → ℕ → ℤ
 half F n = two (F - suc n)
 
 -- 1 from −t down, −1 from t up, else 0
-unfoldable pub cut-back : ℤ → ℤ → ℤ
-cut-back t u = cond (le_z u (neg_ℤ t)) (pos 1) (cond (le_z t u) (negsuc 0) (pos 0))
+unfoldable pub cut_back : ℤ → ℤ → ℤ
+cut_back t u = cond (le_z u (neg_ℤ t)) (pos 1) (cond (le_z t u) (negsuc 0) (pos 0))
 
-unfoldable pub log-select : ℕ → ℕ → 𝔾 → 𝔾
-log-select F n v = gi (cut-back (half F n) (v.re -ℤ two F)) (cut-back (half F n) v.im)
+unfoldable pub log_select : ℕ → ℕ → 𝔾 → 𝔾
+log_select F n v = gi (cut_back (half F n) (v.re -ℤ two F)) (cut_back (half F n) v.im)

@@ -5,14 +5,14 @@ use Rattle.algebra.specs.Gauss.{𝔾, two}
 use Rattle.algebra.specs.Order.{◌⩽◌}
 use Rattle.algebra.specs.Size.{larger}
 use Rattle.algebra.proofs.Power.{two_pos}
-use Rattle.algebra.proofs.Floor.{ceiling-enough, ceiling-least}
-use Rattle.logarithm.specs.Answer.{errorBound}
+use Rattle.algebra.proofs.Floor.{ceiling_enough, ceiling_least}
+use Rattle.logarithm.specs.Answer.{error_bound_of}
 
 module _ (n : ℕ) (p : 𝔾) where
-  pub bound-enough : pos 3 *ℤ larger p ⩽ errorBound n p *ℤ two n
-  unfolding errorBound
-  bound-enough = ceiling-enough (2 ^ n) (two_pos n) (pos 3 *ℤ larger p)
+  pub bound_enough : pos 3 *ℤ larger p ⩽ error_bound_of n p *ℤ two n
+  unfolding error_bound_of
+  bound_enough = ceiling_enough (2 ^ n) (two_pos n) (pos 3 *ℤ larger p)
 
-  pub bound-least : (b : ℤ) → pos 3 *ℤ larger p ⩽ b *ℤ two n → errorBound n p ⩽ b
-  unfolding errorBound
-  bound-least b h = ceiling-least (2 ^ n) (two_pos n) (pos 3 *ℤ larger p) b h
+  pub bound_least : (b : ℤ) → pos 3 *ℤ larger p ⩽ b *ℤ two n → error_bound_of n p ⩽ b
+  unfolding error_bound_of
+  bound_least b h = ceiling_least (2 ^ n) (two_pos n) (pos 3 *ℤ larger p) b h

@@ -6,33 +6,33 @@ use Rattle.algebra.specs.Rounding.{ceiling}
 use Rattle.algebra.specs.Size.{abs, larger}
 use Rattle.series.specs.Series.{Sᵍ, Dᵍ, Dᶻ}
 use Rattle.point.specs.Point.{gauss, point, one}
-use Rattle.point.specs.Limits.{inSteps, inBox, in_parts}
+use Rattle.point.specs.Limits.{in_steps, in_box, in_parts}
 use Rattle.answer.specs.declared.Refusal.TheVariants.{Steps, Part, Zero}
 use Rattle.answer.specs.declared.Figures.{Figures}
 use Rattle.answer.specs.declared.Answer.{Answer}
 use Rattle.answer.specs.declared.Answer.TheVariants.{Answered, Refused}
 use Rattle.answer.specs.Refusal.{unless}
 use Rattle.table_numbers.specs.Promise.{StepTable, ReciprocalTable}
-use Rattle.table_numbers.specs.Table.{stepTable, reciprocalTable}
+use Rattle.table_numbers.specs.Table.{step_table, reciprocal_table}
 use Rattle.iteration.specs.declared.State.{State}
 use Rattle.iteration.specs.declared.Mode.TheVariants.{Log}
 use Rattle.iteration.specs.Run.{state, run}
-use Rattle.logarithm.specs.Reduction.{quadrant, turned, binary-exponent, scaled, cellX, cellY, reduced}
+use Rattle.logarithm.specs.Reduction.{quadrant, turned, binary_exponent_of, scaled, cell_x, cell_y, reduced}
 
--- ---- the limits (one is 2^F units; 01 has F = 48): "N from 3 to 40" is inSteps F 3, and "each part at most 2^58 in size" is in_parts F
+-- ---- the limits (one is 2^F units; 01 has F = 48): "N from 3 to 40" is in_steps F 3, and "each part at most 2^58 in size" is in_parts F
 -- (point, Limits)
 -- the zero point, which "not both zero" shuts out
 unfoldable pub is_zero : 𝔾 → Bool
-is_zero p = inBox (pos 0) (pos 0) (pos 0) (pos 0) p
+is_zero p = in_box (pos 0) (pos 0) (pos 0) (pos 0) p
 
 -- ---- the error bound, the "column" of 01: "3M/2^N rounded up, M being the given point's larger part in size"
-unfoldable pub errorBound : ℕ → 𝔾 → ℤ
-errorBound n p = ceiling (pos 3 *ℤ larger p) (2 ^ n)
+unfoldable pub error_bound_of : ℕ → 𝔾 → ℤ
+error_bound_of n p = ceiling (pos 3 *ℤ larger p) (2 ^ n)
 
 -- ---- the answer for every input
 -- from the turned point w: the scaled point brought near one, and "minus the seat's logarithm"
 abbrev pub begun : ℕ → ReciprocalTable → 𝔾 → State
-begun F logs w = let p = scaled F w in state (reduced F p) (negᵍ (logs (cellX F p) (cellY F p)))
+begun F logs w = let p = scaled F w in state (reduced F p) (negᵍ (logs (cell_x F p) (cell_y F p)))
 
 module _ (F : ℕ) (steps : StepTable) (logs : ReciprocalTable) where
   -- "Steps n = 3 to N": the state of point and answer after them
@@ -44,19 +44,19 @@ module _ (F : ℕ) (steps : StepTable) (logs : ReciprocalTable) where
   abbrev pub figures : ℕ → 𝔾 → Figures
   figures n p = record {
     value = (ended n (turned p)).sum;
-    binary_exponent = binary-exponent F (turned p);
+    binary_exponent = binary_exponent_of F (turned p);
     quadrant = quadrant p;
-    error_bound = errorBound n p;
+    error_bound = error_bound_of n p;
     remainder = point (gauss (ended n (turned p)).point -ᵍ one F);
   }
 
   -- "first 1, N outside 3 to 40; then 3, a part over 2^58 in size; then 4, the zero point"
   unfoldable pub answer : ℤ → 𝔾 → Answer
-  answer n p = unless (inSteps F 3 n) Steps (unless (in_parts F p) Part (unless (not (is_zero p)) Zero (Answered (figures (nat_abs n) p))))
+  answer n p = unless (in_steps F 3 n) Steps (unless (in_parts F p) Part (unless (not (is_zero p)) Zero (Answered (figures (nat_abs n) p))))
 
 -- of log (n, (x, y))
-unfoldable pub logAnswer : ℤ → ℤ → ℤ → Answer
-logAnswer n x y = answer 48 stepTable reciprocalTable n (gi x y)
+unfoldable pub log_answer : ℤ → ℤ → ℤ → Answer
+log_answer n x y = answer 48 step_table reciprocal_table n (gi x y)
 
 -- ---- what demand 3 compares, at T terms: the exponential is S T/D T, and both sides are multiplied by the divisors 2^N and D T
 -- 2^n; there is none for n below 0, where no answer can be close

@@ -6,11 +6,11 @@ use Rattle.algebra.specs.Rounding.{ceiling}
 use Rattle.algebra.specs.Size.{Size, Parts}
 use Rattle.point.specs.declared.Point.{Point}
 use Rattle.point.specs.Point.{gauss, point}
-use Rattle.point.specs.Limits.{inSteps, in_parts}
+use Rattle.point.specs.Limits.{in_steps, in_parts}
 use Rattle.answer.specs.declared.Figures.{Figures}
 use Rattle.table_numbers.specs.declared.Entry.{Entry}
 use Rattle.table_numbers.specs.Rows.{number}
-use Rattle.table_numbers.specs.Table.{stepTable, reciprocalTable}
+use Rattle.table_numbers.specs.Table.{step_table, reciprocal_table}
 use Rattle.logarithm.specs.declared.reduction.Turn.{Turn}
 use Rattle.logarithm.specs.Reduction.{turned, quadrant, bit_length}
 use Rattle.logarithm.specs.Answer.{is_zero, figures}
@@ -45,9 +45,9 @@ bound_at n m = ceiling (pos 3 *ℤ m) (2 ^ n)
 -- ---- the whole
 -- an input that meets no refusal
 pub record Accepted (F : ℕ) (n : ℤ) (p : 𝔾) : Type 0 where
-  pub steps : inSteps F 3 n ≡ true
+  pub steps : in_steps F 3 n ≡ true
   pub parts : in_parts F p ≡ true
   pub nonzero : is_zero p ≡ false
 
-abbrev pub figuresOf : ℕ → Point → Figures
-figuresOf n p = figures 48 stepTable reciprocalTable n (gauss p)
+abbrev pub figures_of : ℕ → Point → Figures
+figures_of n p = figures 48 step_table reciprocal_table n (gauss p)

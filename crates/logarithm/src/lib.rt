@@ -4,8 +4,8 @@ ghost use Rattle.algebra.specs.Gauss.{◌-ᵍ◌, two};
 ghost use Rattle.algebra.specs.Size.{Parts};
 ghost use Rattle.point.specs.Point.{gauss, point, one};
 ghost use Rattle.answer.specs.Remainder.{RemainderBelow};
-ghost use Rattle.logarithm.specs.Answer.{logAnswer, Close};
-ghost use Rattle.logarithm.specs.Code.{BoundPre, bound_at, figuresOf, Accepted};
+ghost use Rattle.logarithm.specs.Answer.{log_answer, Close};
+ghost use Rattle.logarithm.specs.Code.{BoundPre, bound_at, figures_of, Accepted};
 
 use answer::{Answer, Figures, Refusal};
 use iteration::Mode;
@@ -47,7 +47,7 @@ fn less_one(p: Point) -> Point
 // Of a point that meets no refusal. The steps are 3 to n of the iteration's mode Log; what they leave over is the last point less one.
 fn accepted(n: usize, p: Point) -> Figures
     requires { Accepted 48 (pos n) (gauss p) }
-    ensures { result ≡ figuresOf n p }
+    ensures { result ≡ figures_of n p }
 {
     let t = reduction::turned(p);
     let w = t.point;
@@ -73,7 +73,7 @@ fn accepted(n: usize, p: Point) -> Figures
 }
 
 pub fn log(n: i64, p: Point) -> Answer
-    ensures answer { result ≡ logAnswer n p.x p.y }
+    ensures answer { result ≡ log_answer n p.x p.y }
     ensures close { Close n p.x p.y result }
     ensures remainder { RemainderBelow 48 n result }
 {

@@ -6,8 +6,8 @@ ghost use Rattle.algebra.specs.Size.{Parts};
 ghost use Rattle.algebra.specs.Rounding.{floorᵍ};
 ghost use Rattle.point.specs.Point.{gauss, point};
 ghost use Rattle.table_numbers.specs.Rows.{number};
-ghost use Rattle.table_numbers.specs.Table.{reciprocalTable};
-ghost use Rattle.logarithm.specs.Reduction.{inCone, turn-back, spelling, bits, scaled};
+ghost use Rattle.table_numbers.specs.Table.{reciprocal_table};
+ghost use Rattle.logarithm.specs.Reduction.{in_cone, turn_back, spelling, bits, scaled};
 ghost use Rattle.logarithm.specs.Answer.{begun};
 ghost use Rattle.logarithm.specs.Code.{turn_of, ScalePre, ReducePre};
 
@@ -26,7 +26,7 @@ pub struct Turn {
 
 fn in_cone(p: Point) -> bool
     requires { Parts (gauss p) (two 61) }
-    ensures { result ≡ inCone (gauss p) }
+    ensures { result ≡ in_cone (gauss p) }
 {
     let x = p.x;
     let y = p.y;
@@ -35,7 +35,7 @@ fn in_cone(p: Point) -> bool
 
 fn turned_back(p: Point) -> Point
     requires { Parts (gauss p) (two 61) }
-    ensures { result ≡ point (turn-back (gauss p)) }
+    ensures { result ≡ point (turn_back (gauss p)) }
 {
     p.conjugate().quarter_turn().conjugate()
 }
@@ -143,7 +143,7 @@ fn negated(t: Entry) -> Point
 // wide. The logarithm is asked for first: behind the reciprocal its look-up would be compiled to a jump to one of 256 places.
 pub fn begun(w: Point, b: usize) -> State
     requires { ScalePre 48 w b }
-    ensures { result ≡ begun 48 reciprocalTable (gauss w) }
+    ensures { result ≡ begun 48 reciprocal_table (gauss w) }
 {
     let p = scaled(w, b);
     let x = p.x;

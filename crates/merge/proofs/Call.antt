@@ -11,24 +11,24 @@ use mir.Val.{to_z}
 use lib.Dec.{eqb}
 use borrow.Author.Tests.{lt-ltb, le-ltb, ltb-false, ne_eqb}
 use Rattle.algebra.proofs.Test.{either}
-use Rattle.word.proofs.Fits.{word-pos}
+use Rattle.word.proofs.Fits.{word_pos}
 use Rattle.buffer.specs.Code.{Put}
 use Rattle.buffer.proofs.Put.{to_front}
 use Rattle.merge.specs.Merge.{merge}
-use Rattle.merge.specs.Call.{isShort, text, refusalFor, bytesFor}
+use Rattle.merge.specs.Call.{is_short, text, refusal_for, bytes_for}
 use Rattle.merge.proofs.Rules.{Stops}
-use Rattle.merge.proofs.Laws.{merged-fits, which-refusal}
+use Rattle.merge.proofs.Laws.{merged_fits, which_refusal}
 
 -- what is written lies in the buffer, and a refusal is a number that C can be handed
-pub bytes_fit : (a b out : List ℕ) → length (bytesFor a b out) ≤ length out
+pub bytes_fit : (a b out : List ℕ) → length (bytes_for a b out) ≤ length out
 bytes_fit a b out =
-    either (isShort a b out) (λ e. rw e (omega arith))
+    either (is_short a b out) (λ e. rw e (omega arith))
     (λ e. rw e
-    (either (eqb (merge a b).refusal 0) (λ f. rw f (omega (arith, merged-fits a b, ltb-false (length out) (length a + length b + 2) e)))
+    (either (eqb (merge a b).refusal 0) (λ f. rw f (omega (arith, merged_fits a b, ltb-false (length out) (length a + length b + 2) e)))
     (λ f. rw f (omega arith))))
 
-pub refusal-most : (a b out : List ℕ) → refusalFor a b out ≤ 8
-refusal-most a b out = either (isShort a b out) (λ e. rw e (omega arith)) (λ e. rw e (most (which-refusal a b)))
+pub refusal_most : (a b out : List ℕ) → refusal_for a b out ≤ 8
+refusal_most a b out = either (is_short a b out) (λ e. rw e (omega arith)) (λ e. rw e (most (which_refusal a b)))
   where
     most : {r : ℕ} → (r ≡ 0) ⊎ Stops r → r ≤ 8
     most (inl e) = omega arith
@@ -38,17 +38,17 @@ refusal-most a b out = either (isShort a b out) (λ e. rw e (omega arith)) (λ e
 
 module _ (a b out : List ℕ) where
   pub short : length out < length a + length b + 2 →
-      (pos 6 ≡ pos (refusalFor a b out)) × ((◌≡◌ {A = ℕ} 0 (length (bytesFor a b out))) × (out ≡ bytesFor a b out ++ out))
+      (pos 6 ≡ pos (refusal_for a b out)) × ((◌≡◌ {A = ℕ} 0 (length (bytes_for a b out))) × (out ≡ bytes_for a b out ++ out))
   short h = rw (lt-ltb _ _ h) (refl, (refl, refl))
 
   module _ (room : length a + length b + 2 ≤ length out) {r : ℕ} (e : r ≡ (merge a b).refusal) where
-    pub turned-away : (r ≡ 0 → ⊥) → r < 2 ^ 63 →
-        (to_z w64 r ≡ pos (refusalFor a b out)) × ((◌≡◌ {A = ℕ} 0 (length (bytesFor a b out))) × (out ≡ bytesFor a b out ++ out))
-    turned-away n h = rw (le-ltb _ _ room, ← e, ne_eqb _ _ n, word-pos r h) (refl, (refl, refl))
+    pub turned_away : (r ≡ 0 → ⊥) → r < 2 ^ 63 →
+        (to_z w64 r ≡ pos (refusal_for a b out)) × ((◌≡◌ {A = ℕ} 0 (length (bytes_for a b out))) × (out ≡ bytes_for a b out ++ out))
+    turned_away n h = rw (le-ltb _ _ room, ← e, ne_eqb _ _ n, word_pos r h) (refl, (refl, refl))
 
     pub all_done : r ≡ 0 → {out' : List ℕ} {n : ℕ} → Put out 0 (text (merge a b).copied) out' n →
-        (pos 0 ≡ pos (refusalFor a b out)) × ((n ≡ length (bytesFor a b out)) × (out' ≡ bytesFor a b out ++ drop n out))
+        (pos 0 ≡ pos (refusal_for a b out)) × ((n ≡ length (bytes_for a b out)) × (out' ≡ bytes_for a b out ++ drop n out))
     all_done z p =
-        let f = to_front p (omega (arith, merged-fits a b)) in
+        let f = to_front p (omega (arith, merged_fits a b)) in
         let none : (merge a b).refusal ≡ 0 = sym e ∙ z in
         rw (le-ltb _ _ room, none) (refl, (f.count, rw f.count f.bytes))

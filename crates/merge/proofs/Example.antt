@@ -3,12 +3,12 @@ use mathlib.Core.Path.{◌≡◌, refl}
 use mathlib.Core.List.{List, [], ◌∷◌, ◌++◌}
 use Prim.Native.Nat.{ℕ, ◌+◌}
 use Rattle.word.specs.Compare.{between}
-use Rattle.scan.specs.Decimal.{value, readNatural, readNumber}
-use Rattle.scan.specs.Fields.{split, sameBytes}
+use Rattle.scan.specs.Decimal.{value, read_natural, read_number}
+use Rattle.scan.specs.Fields.{split, same_bytes}
 use Rattle.scan.specs.Numbers.{numbers}
-use Rattle.text.specs.Line.{kindLine, line_of, readLine}
-use Rattle.stream.specs.Machine.{lastLine, lines_from}
-use Rattle.merge.specs.Merge.{Merge, frontLine, choice, follow, mergeFrom, merge}
+use Rattle.text.specs.Line.{kind_line, line_of, read_line}
+use Rattle.stream.specs.Machine.{last_line, lines_from}
+use Rattle.merge.specs.Merge.{Merge, front_line, choice, follow, merge_from, merge}
 use Rattle.merge.specs.Call.{text}
 
 -- n|LOG|3|x|0, each of n and x a digit; other lines with the same serial have another x
@@ -44,11 +44,11 @@ abbrev pub Hold : List Case → Type 0
 Hold [] = Unit {0}
 Hold (c ∷ cs) = (merge (text c.first) (text c.second) ≡ c.gives) × Hold cs
 
-pub small-merges : Hold cases
-unfolding merge mergeFrom follow choice frontLine lines_from lastLine split readLine line_of kindLine numbers readNumber readNatural value sameBytes between text
-small-merges = (refl, (refl, (refl, (refl, (refl, (refl, (refl, tt)))))))
+pub small_merges : Hold cases
+unfolding merge merge_from follow choice front_line lines_from last_line split read_line line_of kind_line numbers read_number read_natural value same_bytes between text
+small_merges = (refl, (refl, (refl, (refl, (refl, (refl, (refl, tt)))))))
 
 -- a last line without its newline is a line
-pub last-bare : merge (log 1 0 ++ 10 ∷ log 2 0) [] ≡ record { refusal = 0; copied = log 1 0 ∷ log 2 0 ∷ [] }
-unfolding merge mergeFrom follow choice frontLine lines_from lastLine split readLine line_of kindLine numbers readNumber readNatural value sameBytes between
-last-bare = refl
+pub last_bare : merge (log 1 0 ++ 10 ∷ log 2 0) [] ≡ record { refusal = 0; copied = log 1 0 ∷ log 2 0 ∷ [] }
+unfolding merge merge_from follow choice front_line lines_from last_line split read_line line_of kind_line numbers read_number read_natural value same_bytes between
+last_bare = refl

@@ -8,45 +8,45 @@ use native.Mathlib.Nat.{le_refl}
 use lib.IntN.{ℤ}
 use lib.ListN.{length, take, drop, length-drop, drop_of_length-le}
 use lib.Seq.{take_all, length-take-le}
-use Rattle.scan.specs.Find.{before, findByte}
+use Rattle.scan.specs.Find.{before, find_byte}
 use Rattle.scan.proofs.Find.{ended}
 use Rattle.stream.specs.Machine.{lines}
-use Rattle.stream.proofs.Lines.{no_line, some-line}
-use Rattle.merge.specs.Merge.{frontLine, front}
-use Rattle.merge.specs.Call.{firstLine, behind}
+use Rattle.stream.proofs.Lines.{no_line, some_line}
+use Rattle.merge.specs.Merge.{front_line, front}
+use Rattle.merge.specs.Call.{first_line, behind}
 use Rattle.merge.specs.declared.Front.TheVariants.{End}
 
-pub front-none : (last : ℤ) (s : List ℕ) → length s ≡ 0 → front last (lines s) ≡ End
+pub front_none : (last : ℤ) (s : List ℕ) → length s ≡ 0 → front last (lines s) ≡ End
 unfolding front
-front-none last s e = rw (no_line s e)
+front_none last s e = rw (no_line s e)
 
-module _ (s : List ℕ) (e : ℕ) (found : e ≡ findByte 10 s 0) where
+module _ (s : List ℕ) (e : ℕ) (found : e ≡ find_byte 10 s 0) where
   pub within : e ≤ length s
   within = (ended (omega arith) found).high
 
   at : e ≡ before 10 s
   at = omega (arith, found)
 
-  pub first-is : take e s ≡ firstLine s
-  unfolding firstLine
-  first-is = ap (λ n. take n s) at
+  pub first_is : take e s ≡ first_line s
+  unfolding first_line
+  first_is = ap (λ n. take n s) at
 
-  pub first-length : length (take e s) ≡ e
-  first-length = length-take-le e s within
+  pub first_length : length (take e s) ≡ e
+  first_length = length-take-le e s within
 
-  pub front-is : (last : ℤ) → (length s ≡ 0 → ⊥) → front last (lines s) ≡ frontLine last (take e s)
+  pub front_is : (last : ℤ) → (length s ≡ 0 → ⊥) → front last (lines s) ≡ front_line last (take e s)
   unfolding front
-  front-is last n = rw (some-line s n, at)
+  front_is last n = rw (some_line s n, at)
 
   part : (k : ℕ) → take (length s - k) (drop k s) ≡ drop k s
   part k = take_all (length s - k) (drop k s) (simp length-drop (le_refl (length s - k)))
 
-  pub behind-newline : take (length s - (e + 1)) (drop (e + 1) s) ≡ behind s
+  pub behind_newline : take (length s - (e + 1)) (drop (e + 1) s) ≡ behind s
   unfolding behind
-  behind-newline = part (e + 1) ∙ rw (add-one, at)
+  behind_newline = part (e + 1) ∙ rw (add-one, at)
 
-  pub behind-last : length s ≤ e → take (length s - e) (drop e s) ≡ behind s
+  pub behind_last : length s ≤ e → take (length s - e) (drop e s) ≡ behind s
   unfolding behind
-  behind-last h =
+  behind_last h =
       let n : length s ≤ suc (before 10 s) = omega (arith, at) in
       part e ∙ (drop_of_length-le s h ∙ sym (drop_of_length-le s n))

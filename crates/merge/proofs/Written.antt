@@ -46,11 +46,11 @@ module _ {whole b b' : List ℕ} {w : ℕ} {m : Merge} (r : Writing whole b b' m
     ahead : Reached whole b b' ((l ++ 10 ∷ []) ++ text m'.copied) w
     ahead = rw (line_first l m'.copied) at (rw e at r.reached)
 
-    pub line-written : {b'' : List ℕ} {w' : ℕ} → Put b' w (l ++ 10 ∷ []) b'' w' → Writing whole b b'' m' w'
-    line-written p = record { free = rw e at r.free; reached = onward ahead p }
+    pub line_written : {b'' : List ℕ} {w' : ℕ} → Put b' w (l ++ 10 ∷ []) b'' w' → Writing whole b b'' m' w'
+    line_written p = record { free = rw e at r.free; reached = onward ahead p }
 
-    pub line-fits : length whole ≤ length b → w + length l + 1 ≤ length b'
-    line-fits h =
+    pub line_fits : length whole ≤ length b → w + length l + 1 ≤ length b'
+    line_fits h =
         omega (arith, ahead.count, ahead.kept, length-append (l ++ 10 ∷ []) (text m'.copied), length-append l (10 ∷ []))
 
   -- none
@@ -58,9 +58,9 @@ module _ {whole b b' : List ℕ} {w : ℕ} {m : Merge} (r : Writing whole b b' m
   nothing_written e = record { free = rw e at r.free; reached = rw e at r.reached }
 
   -- all that is left
-  pub all-written : {e : ℕ} → m ≡ stopped e → Put b 0 whole b' w
+  pub all_written : {e : ℕ} → m ≡ stopped e → Put b 0 whole b' w
   unfolding text
-  all-written e = finish (rw e at r.reached)
+  all_written e = finish (rw e at r.reached)
 
   -- what is left of the one sheet and of the other
   module _ (xs ys : List ℕ) (e : text m.copied ≡ xs ++ ys) where
@@ -70,15 +70,15 @@ module _ {whole b b' : List ℕ} {w : ℕ} {m : Merge} (r : Writing whole b b' m
     pub first_fits : length whole ≤ length b → w + length xs ≤ length b'
     first_fits h = omega (arith, parted.count, parted.kept, length-append xs ys)
 
-    pub first-written : {b'' : List ℕ} {w' : ℕ} → Put b' w xs b'' w' → Reached whole b b'' ys w'
-    first-written p = onward parted p
+    pub first_written : {b'' : List ℕ} {w' : ℕ} → Put b' w xs b'' w' → Reached whole b b'' ys w'
+    first_written p = onward parted p
 
 module _ {whole b b' rest : List ℕ} {w : ℕ} (r : Reached whole b b' rest w) where
-  pub rest-fits : length whole ≤ length b → w + length rest ≤ length b'
-  rest-fits h = omega (arith, r.count, r.kept)
+  pub rest_fits : length whole ≤ length b → w + length rest ≤ length b'
+  rest_fits h = omega (arith, r.count, r.kept)
 
-  pub rest-written : {b'' : List ℕ} {w' : ℕ} → Put b' w rest b'' w' → Put b 0 whole b'' w'
-  rest-written p = finish (onward (rw (← append-nil rest) at r) p)
+  pub rest_written : {b'' : List ℕ} {w' : ℕ} → Put b' w rest b'' w' → Put b 0 whole b'' w'
+  rest_written p = finish (onward (rw (← append-nil rest) at r) p)
 
 pub start : (m : Merge) (b : List ℕ) → m.refusal ≡ 0 → Writing (text m.copied) b b m 0
 start m b e = record { free = e; reached = begin (text m.copied) b }

@@ -6,8 +6,8 @@ use Rattle.merge.specs.Merge.{merge}
 use Rattle.merge.specs.declared.Choice.TheVariants.{Done, First, Passed, Second, Refused}
 
 -- ---- A STEP: the bytes of the first line of a sheet, and those behind it
-unfoldable pub firstLine : List ℕ → List ℕ
-firstLine s = take (before 10 s) s
+unfoldable pub first_line : List ℕ → List ℕ
+first_line s = take (before 10 s) s
 
 unfoldable pub behind : List ℕ → List ℕ
 behind s = drop (suc (before 10 s)) s
@@ -22,11 +22,11 @@ unread (Second n) a b = behind b
 
 -- ---- THE CALL
 -- "The lent output must hold both sheets and two newlines, else 6 before any line is looked at"
-abbrev pub isShort : List ℕ → List ℕ → List ℕ → Bool
-isShort a b out = ltb (length out) (length a + length b + 2)
+abbrev pub is_short : List ℕ → List ℕ → List ℕ → Bool
+is_short a b out = ltb (length out) (length a + length b + 2)
 
-abbrev pub refusalFor : List ℕ → List ℕ → List ℕ → ℕ
-refusalFor a b out = cond (isShort a b out) 6 (merge a b).refusal
+abbrev pub refusal_for : List ℕ → List ℕ → List ℕ → ℕ
+refusal_for a b out = cond (is_short a b out) 6 (merge a b).refusal
 
 -- each line with its newline: "a last line without its newline gets one"
 unfoldable pub text : List (List ℕ) → List ℕ
@@ -34,5 +34,5 @@ text [] = []
 text (l ∷ ls) = l ++ 10 ∷ text ls
 
 -- what is written: nothing "with a refusal, which leaves the output unchanged"
-abbrev pub bytesFor : List ℕ → List ℕ → List ℕ → List ℕ
-bytesFor a b out = cond (eqb (refusalFor a b out) 0) (text (merge a b).copied) []
+abbrev pub bytes_for : List ℕ → List ℕ → List ℕ → List ℕ
+bytes_for a b out = cond (eqb (refusal_for a b out) 0) (text (merge a b).copied) []

@@ -2,8 +2,8 @@
 use Rattle.std.specs.Prelude.{Bool, cond, List, [], ◌∷◌, ℕ, ℤ, pos}
 use Rattle.std.specs.Int.Signed.{le_z, lt_z}
 use Rattle.scan.specs.declared.Number.{Number}
-use Rattle.scan.specs.Fields.{sameBytes}
-use Rattle.text.specs.Line.{readLine, serialOf}
+use Rattle.scan.specs.Fields.{same_bytes}
+use Rattle.text.specs.Line.{read_line, serial_of}
 use Rattle.stream.specs.Machine.{lines}
 use Rattle.merge.specs.declared.Front.{Front}
 use Rattle.merge.specs.declared.Choice.{Choice}
@@ -12,21 +12,21 @@ use Rattle.merge.specs.declared.Front.TheVariants.{End, Malformed, Fallen, Risen
 use Rattle.merge.specs.declared.Choice.TheVariants.{Done, First, Passed, Second, Refused}
 
 -- ---- THE LINE IN FRONT of what is left of a sheet, behind a line with the serial `last`: malformed, of "a falling or repeated number", or neither
-abbrev pub byNumber : ℤ → Number → Front
-byNumber last num.Not = Malformed
-byNumber last (num.Is serial) = cond (le_z serial last) Fallen (Risen serial)
+abbrev pub by_number : ℤ → Number → Front
+by_number last num.Not = Malformed
+by_number last (num.Is serial) = cond (le_z serial last) Fallen (Risen serial)
 
-unfoldable pub frontLine : ℤ → List ℕ → Front
-frontLine last l = byNumber last (serialOf (readLine l))
+unfoldable pub front_line : ℤ → List ℕ → Front
+front_line last l = by_number last (serial_of (read_line l))
 
 unfoldable pub front : ℤ → List (List ℕ) → Front
 front last [] = End
-front last (l ∷ ls) = frontLine last l
+front last (l ∷ ls) = front_line last l
 
 -- ---- THE CHOICE at the lines in front of two sheets, which are the same, byte by byte, or not
 -- two serials: "where both sheets have equal lines under one number, the step passes the first sheet's by"; "8, one number with two differing lines"
-abbrev pub bySerial : ℤ → ℤ → Bool → Choice
-bySerial m n same = cond (lt_z m n) (First m) (cond (lt_z n m) (Second n) (cond same (Passed m) (Refused 8)))
+abbrev pub by_serial : ℤ → ℤ → Bool → Choice
+by_serial m n same = cond (lt_z m n) (First m) (cond (lt_z n m) (Second n) (cond same (Passed m) (Refused 8)))
 
 -- "a malformed line stops the merge with 5", on either side; then a fallen one "with 7", on either; 8 comes "after 5 and 7 at the same pair of lines"
 unfoldable pub choice : Front → Front → Bool → Choice
@@ -42,7 +42,7 @@ choice End (Risen n) same = Second n
 choice (Risen m) Malformed same = Refused 5
 choice (Risen m) Fallen same = Refused 7
 choice (Risen m) End same = First m
-choice (Risen m) (Risen n) same = bySerial m n same
+choice (Risen m) (Risen n) same = by_serial m n same
 
 -- ---- THE MERGE: the refusal that stops it, or 0, and the lines copied until then
 pub record Merge : Type 0 where
@@ -74,18 +74,18 @@ alone (Risen n) behind = behind n
 
 unfoldable pub follow : ℤ → List (List ℕ) → Merge
 follow last [] = stopped 0
-follow last (l ∷ ls) = alone (frontLine last l) (λ n. l then follow n ls)
+follow last (l ∷ ls) = alone (front_line last l) (λ n. l then follow n ls)
 
 -- "The pair of lines met first in the merge decides which refusal is given"
-unfoldable pub mergeFrom : ℤ → ℤ → List (List ℕ) → List (List ℕ) → Merge
-mergeFrom j k [] ys = follow k ys
-mergeFrom j k (a ∷ xs) [] = follow j (a ∷ xs)
-mergeFrom j k (a ∷ xs) (b ∷ ys) =
-    act (choice (frontLine j a) (frontLine k b) (sameBytes a b))
-    (λ n. a then mergeFrom n k xs (b ∷ ys))
-    (λ n. mergeFrom n k xs (b ∷ ys))
-    (λ n. b then mergeFrom j n (a ∷ xs) ys)
+unfoldable pub merge_from : ℤ → ℤ → List (List ℕ) → List (List ℕ) → Merge
+merge_from j k [] ys = follow k ys
+merge_from j k (a ∷ xs) [] = follow j (a ∷ xs)
+merge_from j k (a ∷ xs) (b ∷ ys) =
+    act (choice (front_line j a) (front_line k b) (same_bytes a b))
+    (λ n. a then merge_from n k xs (b ∷ ys))
+    (λ n. merge_from n k xs (b ∷ ys))
+    (λ n. b then merge_from j n (a ∷ xs) ys)
 
 -- of two sheets: serials begin above 0
 unfoldable pub merge : List ℕ → List ℕ → Merge
-merge a b = mergeFrom (pos 0) (pos 0) (lines a) (lines b)
+merge a b = merge_from (pos 0) (pos 0) (lines a) (lines b)

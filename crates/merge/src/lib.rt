@@ -1,11 +1,11 @@
 // Two sheets merged into one whose serials rise, each line copied unchanged.
 ghost use Rattle.std.specs.Prelude.{◌≡◌, [], ◌∷◌, ◌++◌, ◌+◌, ◌≤◌, ltb, pos, length, drop};
-ghost use Rattle.scan.specs.Fields.{sameBytes};
+ghost use Rattle.scan.specs.Fields.{same_bytes};
 ghost use Rattle.buffer.specs.Code.{Put};
 ghost use Rattle.stream.specs.Machine.{lines};
-ghost use Rattle.merge.specs.Merge.{front, bySerial, choice, merge};
+ghost use Rattle.merge.specs.Merge.{front, by_serial, choice, merge};
 ghost use Rattle.merge.specs.Code.{InFrontIfPassing};
-ghost use Rattle.merge.specs.Call.{firstLine, behind, unread, text, refusalFor, bytesFor};
+ghost use Rattle.merge.specs.Call.{first_line, behind, unread, text, refusal_for, bytes_for};
 
 use scan::Number;
 
@@ -65,7 +65,7 @@ pub fn read_front(s: &[u8], last: i64) -> Front
 
 // Whether two sheets have the same bytes in front, up to the first newline.
 fn same_line(a: &[u8], b: &[u8]) -> bool
-    ensures { result ≡ sameBytes (firstLine a.now) (firstLine b.now) }
+    ensures { result ≡ same_bytes (first_line a.now) (first_line b.now) }
 {
     let e = scan::find_byte(a, 0, 10);
     let f = scan::find_byte(b, 0, 10);
@@ -74,7 +74,7 @@ fn same_line(a: &[u8], b: &[u8]) -> bool
 
 // What to do where the lines in front of a and b have the serials m and n.
 fn by_serial(a: &[u8], b: &[u8], m: i64, n: i64) -> Choice
-    ensures { result ≡ bySerial m n (sameBytes (firstLine a.now) (firstLine b.now)) }
+    ensures { result ≡ by_serial m n (same_bytes (first_line a.now) (first_line b.now)) }
 {
     if m < n {
         return Choice::First(m);
@@ -90,7 +90,7 @@ fn by_serial(a: &[u8], b: &[u8], m: i64, n: i64) -> Choice
 
 // What to do where f and g are the lines in front of a and b.
 pub fn choose(a: &[u8], b: &[u8], f: Front, g: Front) -> Choice
-    ensures { result ≡ choice f g (sameBytes (firstLine a.now) (firstLine b.now)) }
+    ensures { result ≡ choice f g (same_bytes (first_line a.now) (first_line b.now)) }
 {
     match f {
         Front::Malformed => Choice::Refused(5),
@@ -188,8 +188,8 @@ fn put_line(line: &[u8], out: &mut [u8], at: usize) -> usize
 
 // The first line of a sheet.
 fn put_first(s: &[u8], out: &mut [u8], at: usize) -> usize
-    requires { at + length (firstLine s.now) + 1 ≤ length out.old }
-    ensures { Put out.old at (firstLine s.now ++ 10 ∷ []) out.new result }
+    requires { at + length (first_line s.now) + 1 ≤ length out.old }
+    ensures { Put out.old at (first_line s.now ++ 10 ∷ []) out.new result }
 {
     let end = scan::find_byte(s, 0, 10);
     put_line(&s[..end], out, at)
@@ -279,9 +279,9 @@ fn is_short(a: usize, b: usize, room: usize) -> bool
 
 // THE CALL: both sheets merged into a lent buffer. It is decided whole before a byte is written.
 pub fn merge<'a>(a: &'a [u8], b: &'a [u8], out: &mut [u8]) -> Merged
-    ensures refusal { result.refusal ≡ pos (refusalFor a.now b.now out.old) }
-    ensures count { result.written ≡ length (bytesFor a.now b.now out.old) }
-    ensures bytes { out.new ≡ bytesFor a.now b.now out.old ++ drop result.written out.old }
+    ensures refusal { result.refusal ≡ pos (refusal_for a.now b.now out.old) }
+    ensures count { result.written ≡ length (bytes_for a.now b.now out.old) }
+    ensures bytes { out.new ≡ bytes_for a.now b.now out.old ++ drop result.written out.old }
 {
     if is_short(a.len(), b.len(), out.len()) {
         return Merged {

@@ -1,11 +1,11 @@
 -- Which line of which sheet stops a merge (02, E4).
 use Rattle.std.specs.Prelude.{Bool, false, cond, List, [], ◌∷◌, ℕ, suc, eqb, ℤ, pos}
-use Rattle.scan.specs.Fields.{sameBytes}
+use Rattle.scan.specs.Fields.{same_bytes}
 use Rattle.stream.specs.Machine.{lines}
 use Rattle.merge.specs.declared.Front.{Front}
 use Rattle.merge.specs.declared.Choice.{Choice}
 use Rattle.merge_stop.specs.declared.Stop.{Stop}
-use Rattle.merge.specs.Merge.{frontLine, choice}
+use Rattle.merge.specs.Merge.{front_line, choice}
 use Rattle.merge.specs.declared.Front.TheVariants.{End, Malformed, Fallen, Risen}
 use Rattle.merge.specs.declared.Choice.TheVariants.{Done, First, Passed, Second, Refused}
 
@@ -34,15 +34,15 @@ met h i f g same first second = chosen h i f g (choice f g same) first second
 
 -- ---- THE MERGE from such a pair on, behind lines of the serials j and k: "The pair of lines met first in the merge decides which refusal is given"
 -- no choice falls on a sheet that has no line left
-unfoldable pub stopFrom : ℕ → ℕ → ℤ → ℤ → List (List ℕ) → List (List ℕ) → Stop
-stopFrom h i j k [] [] = none
-stopFrom h i j k [] (b ∷ ys) = met h i End (frontLine k b) false (λ n. none) (λ n. stopFrom h (suc i) j n [] ys)
-stopFrom h i j k (a ∷ xs) [] = met h i (frontLine j a) End false (λ n. stopFrom (suc h) i n k xs []) (λ n. none)
-stopFrom h i j k (a ∷ xs) (b ∷ ys) =
-    met h i (frontLine j a) (frontLine k b) (sameBytes a b)
-    (λ n. stopFrom (suc h) i n k xs (b ∷ ys))
-    (λ n. stopFrom h (suc i) j n (a ∷ xs) ys)
+unfoldable pub stop_from : ℕ → ℕ → ℤ → ℤ → List (List ℕ) → List (List ℕ) → Stop
+stop_from h i j k [] [] = none
+stop_from h i j k [] (b ∷ ys) = met h i End (front_line k b) false (λ n. none) (λ n. stop_from h (suc i) j n [] ys)
+stop_from h i j k (a ∷ xs) [] = met h i (front_line j a) End false (λ n. stop_from (suc h) i n k xs []) (λ n. none)
+stop_from h i j k (a ∷ xs) (b ∷ ys) =
+    met h i (front_line j a) (front_line k b) (same_bytes a b)
+    (λ n. stop_from (suc h) i n k xs (b ∷ ys))
+    (λ n. stop_from h (suc i) j n (a ∷ xs) ys)
 
 -- of two sheets: lines are counted from 1, and serials begin above 0
 unfoldable pub stop : List ℕ → List ℕ → Stop
-stop a b = stopFrom 1 1 (pos 0) (pos 0) (lines a) (lines b)
+stop a b = stop_from 1 1 (pos 0) (pos 0) (lines a) (lines b)

@@ -8,25 +8,25 @@ use Rattle.algebra.proofs.Test.{and_left, and_right}
 use Rattle.point.specs.Digit.{Trit, t-, t0, t+, IsDigit}
 
 -- ---- at most one in size
-pub trit-size : {d : ℤ} → Trit d → Size d (pos 1)
-trit-size t- = record { lo = record { le = tt }; hi = record { le = tt } }
-trit-size t0 = record { lo = record { le = tt }; hi = record { le = tt } }
-trit-size t+ = record { lo = record { le = tt }; hi = record { le = tt } }
+pub trit_size : {d : ℤ} → Trit d → Size d (pos 1)
+trit_size t- = record { lo = record { le = tt }; hi = record { le = tt } }
+trit_size t0 = record { lo = record { le = tt }; hi = record { le = tt } }
+trit_size t+ = record { lo = record { le = tt }; hi = record { le = tt } }
 
-pub digit-parts : {d : 𝔾} → IsDigit d → Parts d (pos 1)
-digit-parts t = record { re = trit-size t.x; im = trit-size t.y }
+pub digit_parts : {d : 𝔾} → IsDigit d → Parts d (pos 1)
+digit_parts t = record { re = trit_size t.x; im = trit_size t.y }
 
 -- ---- a test at each value of a digit's part, and at each of the nine digits
 abbrev pub trits : (ℤ → Bool) → Bool
 trits f = f (negsuc 0) && (f (pos 0) && f (pos 1))
 
-pub trits-at : (f : ℤ → Bool) → T (trits f) → {d : ℤ} → Trit d → T (f d)
-trits-at f p t- = and_left (f (negsuc 0)) (f (pos 0) && f (pos 1)) p
-trits-at f p t0 = and_left (f (pos 0)) (f (pos 1)) (and_right (f (negsuc 0)) (f (pos 0) && f (pos 1)) p)
-trits-at f p t+ = and_right (f (pos 0)) (f (pos 1)) (and_right (f (negsuc 0)) (f (pos 0) && f (pos 1)) p)
+pub trits_at : (f : ℤ → Bool) → T (trits f) → {d : ℤ} → Trit d → T (f d)
+trits_at f p t- = and_left (f (negsuc 0)) (f (pos 0) && f (pos 1)) p
+trits_at f p t0 = and_left (f (pos 0)) (f (pos 1)) (and_right (f (negsuc 0)) (f (pos 0) && f (pos 1)) p)
+trits_at f p t+ = and_right (f (pos 0)) (f (pos 1)) (and_right (f (negsuc 0)) (f (pos 0) && f (pos 1)) p)
 
 abbrev pub nine : (ℤ → ℤ → Bool) → Bool
 nine f = trits (λ dx. trits (λ dy. f dx dy))
 
-pub nine-at : (f : ℤ → ℤ → Bool) → T (nine f) → {d : 𝔾} → IsDigit d → T (f d.re d.im)
-nine-at f p {d} k = trits-at (λ dy. f d.re dy) (trits-at (λ dx. trits (λ dy. f dx dy)) p k.x) k.y
+pub nine_at : (f : ℤ → ℤ → Bool) → T (nine f) → {d : 𝔾} → IsDigit d → T (f d.re d.im)
+nine_at f p {d} k = trits_at (λ dy. f d.re dy) (trits_at (λ dx. trits (λ dy. f dx dy)) p k.x) k.y

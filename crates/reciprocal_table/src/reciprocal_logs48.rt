@@ -1,11 +1,11 @@
 // The logarithms of the reciprocals at the width 48, by their cells. Made by tests/tables/generate.py.
 ghost use Rattle.std.specs.Prelude.{◌≡◌};
-ghost use Rattle.table_numbers.specs.Rows.{reciprocalLogAt};
+ghost use Rattle.table_numbers.specs.Rows.{reciprocal_log_at};
 
 use table_numbers::Entry;
 
 pub fn reciprocal_log_at(cell: usize) -> Entry
-    ensures { result ≡ reciprocalLogAt cell }
+    ensures { result ≡ reciprocal_log_at cell }
 {
     match cell {
         0 => Entry {

@@ -12,32 +12,32 @@ use Rattle.iteration.specs.Select.{cut}
 use Rattle.iteration.specs.Run.{state}
 
 -- the digit, by the same thresholds at every step: −1/2 and 3/8 for dx, −3/4 and 13/16 for dy
-unfoldable pub register-select : ℕ → 𝔾 → 𝔾
-register-select F r = gi (cut (neg_ℤ (two (F - 1))) (pos 3 *ℤ two (F - 3)) r.re)
+unfoldable pub register_select : ℕ → 𝔾 → 𝔾
+register_select F r = gi (cut (neg_ℤ (two (F - 1))) (pos 3 *ℤ two (F - 3)) r.re)
     (cut (neg_ℤ (pos 3 *ℤ two (F - 2))) (pos 13 *ℤ two (F - 4)) r.im)
 
 -- 2^(n+1) times the stored entry of step n
-abbrev pub scaled-entry : StepTable → ℕ → 𝔾 → 𝔾
-scaled-entry t n d = twoᵍ (suc n) *ᵍ look t n d
+abbrev pub scaled_entry : StepTable → ℕ → 𝔾 → 𝔾
+scaled_entry t n d = twoᵍ (suc n) *ᵍ look t n d
 
 -- step n by the digit d; the point takes the step of 01
-unfoldable pub register-next : StepTable → ℕ → 𝔾 → State → State
-register-next t n d x = state (step n d (gauss x.point)) (ιᵍ (pos 2) *ᵍ gauss x.sum -ᵍ scaled-entry t n d)
+unfoldable pub register_next : StepTable → ℕ → 𝔾 → State → State
+register_next t n d x = state (step n d (gauss x.point)) (ιᵍ (pos 2) *ᵍ gauss x.sum -ᵍ scaled_entry t n d)
 
 module _ (F : ℕ) (t : StepTable) where
   -- step n by its own digit
-  abbrev pub register-moved : ℕ → State → State
-  register-moved n x = register-next t n (register-select F (gauss x.sum)) x
+  abbrev pub register_moved : ℕ → State → State
+  register_moved n x = register_next t n (register_select F (gauss x.sum)) x
 
   -- the steps n + 1 to n + k
-  unfoldable pub register-run : ℕ → ℕ → State → State
-  register-run n zero x = x
-  register-run n (suc k) x = let y = register-moved (suc n) x in register-run (suc n) k y
+  unfoldable pub register_run : ℕ → ℕ → State → State
+  register_run n zero x = x
+  register_run n (suc k) x = let y = register_moved (suc n) x in register_run (suc n) k y
 
   -- their digits
-  unfoldable pub register-digits : ℕ → ℕ → State → List 𝔾
-  register-digits n zero x = []
-  register-digits n (suc k) x = let y = register-moved (suc n) x in register-select F (gauss x.sum) ∷ register-digits (suc n) k y
+  unfoldable pub register_digits : ℕ → ℕ → State → List 𝔾
+  register_digits n zero x = []
+  register_digits n (suc k) x = let y = register_moved (suc n) x in register_select F (gauss x.sum) ∷ register_digits (suc n) k y
 
 -- ---- from a state of start and exponent and back
 -- before step 1 the register holds twice the exponent

@@ -8,11 +8,11 @@ ghost use Rattle.algebra.specs.Size.{Parts};
 ghost use Rattle.point.specs.Point.{gauss, point, digit};
 ghost use Rattle.answer.specs.Remainder.{RemainderBelow};
 ghost use Rattle.table_numbers.specs.Rows.{number};
-ghost use Rattle.table_numbers.specs.Table.{stepTable};
-ghost use Rattle.exponential.specs.Answer.{expAnswer, Close};
-ghost use Rattle.register.specs.Register.{register-select, register-run};
-ghost use Rattle.register.specs.Answer.{registerAnswer};
-ghost use Rattle.register.specs.Code.{doubledLess, LessPre, StepPre, step_of, Fits, TakePre, taken};
+ghost use Rattle.table_numbers.specs.Table.{step_table};
+ghost use Rattle.exponential.specs.Answer.{exp_answer, Close};
+ghost use Rattle.register.specs.Register.{register_select, register_run};
+ghost use Rattle.register.specs.Answer.{register_answer};
+ghost use Rattle.register.specs.Code.{doubled_less, LessPre, StepPre, step_of, Fits, TakePre, taken};
 
 use answer::{Answer, Figures};
 use iteration::State;
@@ -23,7 +23,7 @@ use table_numbers::Entry;
 
 // The thresholds are -1/2 and 3/8 for dx, -3/4 and 13/16 for dy.
 fn select(r: Point) -> Digit
-    ensures { result ≡ digit (register-select 48 (gauss r)) }
+    ensures { result ≡ digit (register_select 48 (gauss r)) }
 {
     let x = r.x;
     let y = r.y;
@@ -36,7 +36,7 @@ fn select(r: Point) -> Digit
 // Twice the register, less the entry times 2^(n + 1).
 fn doubled_less(r: Point, entry: Entry, n: usize) -> Point
     requires { LessPre (gauss r) (number entry) n }
-    ensures { result ≡ point (doubledLess (gauss r) (number entry) n) }
+    ensures { result ≡ point (doubled_less (gauss r) (number entry) n) }
 {
     let x = r.x;
     let y = r.y;
@@ -66,8 +66,8 @@ fn step(s: State, d: Digit, row: [Entry; 3], n: usize) -> State
 
 // The steps 1 to n.
 fn run(n: usize, start: State) -> State
-    requires { Fits 48 stepTable 0 n start }
-    ensures { result ≡ register-run 48 stepTable 0 n start }
+    requires { Fits 48 step_table 0 n start }
+    ensures { result ≡ register_run 48 step_table 0 n start }
 {
     let mut s = start;
     let mut k = 1;
@@ -107,8 +107,8 @@ fn over(r: Point, m: usize) -> Point
 
 // The figures after n steps, from those before the first.
 fn take(n: usize, f: Figures) -> Figures
-    requires { TakePre 48 stepTable n f }
-    ensures { result ≡ taken 48 stepTable n f }
+    requires { TakePre 48 step_table n f }
+    ensures { result ≡ taken 48 step_table n f }
 {
     let e = f.remainder;
     let s = f.value;
@@ -132,8 +132,8 @@ fn take(n: usize, f: Figures) -> Figures
 
 // EXP's answer as a register makes it: that of `exponential::exp`, for every input.
 pub fn exp(n: i64, exponent: Point, start: Point) -> Answer
-    ensures register { result ≡ registerAnswer n exponent.x exponent.y start.x start.y }
-    ensures answer { result ≡ expAnswer n exponent.x exponent.y start.x start.y }
+    ensures register { result ≡ register_answer n exponent.x exponent.y start.x start.y }
+    ensures answer { result ≡ exp_answer n exponent.x exponent.y start.x start.y }
     ensures close { Close n exponent.x exponent.y start.x start.y result }
     ensures remainder { RemainderBelow 48 n result }
 {

@@ -2,7 +2,7 @@
 use Rattle.std.proofs.Common.{◌≡◌, ℕ, suc, ◌+◌, ◌<◌, ◌≤◌, Bool, true, false, T, eqb, ltb, List, [], ◌∷◌, ◌++◌, length, get_or, drop, sym, refl, ap, ◌∙◌, subst, append_assoc, append-nil, add-one, arith, drop_of_length-le, drop-cons, ltb-false, ltb-true, le-ltb, lt-ltb, eq-eqb, ne_eqb, eqb-true}
 use lib.Seq.{slice, slice-cons, slice_empty}
 use Rattle.algebra.proofs.Test.{either}
-use Rattle.scan.specs.Fields.{split, fields, fields_at, sameBytes}
+use Rattle.scan.specs.Fields.{split, fields, fields_at, same_bytes}
 use Rattle.scan.proofs.Find.{Without, Ended, parted}
 
 -- ---- a field ends at the first tab, and the other fields begin behind it
@@ -11,19 +11,19 @@ unfolding split
 split_plain m [] ys p w = rw append-nil
 split_plain m (c ∷ xs) ys p w = rw (ne_eqb c m w.0) (split_plain m xs ys (p ++ c ∷ []) w.1 ∙ rw append_assoc)
 
-pub field-parts : {l : List ℕ} {from r : ℕ} → Ended 9 l from r → fields (drop from l) ≡ slice from r l ∷ fields_at l (r + 1)
+pub field_parts : {l : List ℕ} {from r : ℕ} → Ended 9 l from r → fields (drop from l) ≡ slice from r l ∷ fields_at l (r + 1)
 unfolding split
-field-parts {l} {from} {r} f =
+field_parts {l} {from} {r} f =
     ap fields (parted f) ∙ (split_plain 9 (slice from r l) (drop r l) [] f.plain
-    ∙ either (ltb r (length l)) (λ e. at_mark (ltb-true r (length l) e)) (λ e. at-end (ltb-false r (length l) e)))
+    ∙ either (ltb r (length l)) (λ e. at_mark (ltb-true r (length l) e)) (λ e. at_end (ltb-false r (length l) e)))
   where
     at_mark : r < length l → split 9 (slice from r l) (drop r l) ≡ slice from r l ∷ fields_at l (r + 1)
     at_mark h =
         let b : suc r ≤ length l = omega arith in
         rw (add-one, drop-cons l r 0 h, eq-eqb _ _ (f.mark h), le-ltb _ _ b)
 
-    at-end : length l ≤ r → split 9 (slice from r l) (drop r l) ≡ slice from r l ∷ fields_at l (r + 1)
-    at-end h =
+    at_end : length l ≤ r → split 9 (slice from r l) (drop r l) ≡ slice from r l ∷ fields_at l (r + 1)
+    at_end h =
         let b : length l < suc r = omega arith in
         rw (add-one, drop_of_length-le l h, lt-ltb _ _ b)
 
@@ -32,41 +32,41 @@ pub no_field : (l : List ℕ) (at : ℕ) → length l < at → fields_at l at �
 no_field l at h = rw (lt-ltb _ _ h)
 
 pub first_field : {l : List ℕ} {at e : ℕ} → at ≤ length l → Ended 9 l at e → fields_at l at ≡ slice at e l ∷ fields_at l (e + 1)
-first_field {l} {at} h f = rw (le-ltb (length l) at h) (field-parts f)
+first_field {l} {at} h f = rw (le-ltb (length l) at h) (field_parts f)
 
 pub record Field (fs : List (List ℕ)) : Type 0 where
   pub first : List ℕ
   pub others : List (List ℕ)
   pub is : fs ≡ first ∷ others
 
-pub split-some : (m : ℕ) (p l : List ℕ) → Field (split m p l)
+pub split_some : (m : ℕ) (p l : List ℕ) → Field (split m p l)
 unfolding split
-split-some m p [] = record { first = p; others = []; is = refl }
-split-some m p (c ∷ cs) =
-    either (eqb c m) (λ e. rw e (record { first = p; others = split m [] cs; is = refl })) (λ e. rw e (split-some m (p ++ c ∷ []) cs))
+split_some m p [] = record { first = p; others = []; is = refl }
+split_some m p (c ∷ cs) =
+    either (eqb c m) (λ e. rw e (record { first = p; others = split m [] cs; is = refl })) (λ e. rw e (split_some m (p ++ c ∷ []) cs))
 
-pub some-field : (l : List ℕ) (at : ℕ) → at ≤ length l → Field (fields_at l at)
-some-field l at h = rw (le-ltb (length l) at h) (split-some 9 [] (drop at l))
+pub some_field : (l : List ℕ) (at : ℕ) → at ≤ length l → Field (fields_at l at)
+some_field l at h = rw (le-ltb (length l) at h) (split_some 9 [] (drop at l))
 
 -- ---- bytes compared one by one: the same ones are one list
-pub same_self : (xs : List ℕ) → sameBytes xs xs ≡ true
-unfolding sameBytes
+pub same_self : (xs : List ℕ) → same_bytes xs xs ≡ true
+unfolding same_bytes
 same_self [] = refl
 same_self (x ∷ xs) = rw (eq-eqb x x refl) (same_self xs)
 
-pub same-list : (xs ys : List ℕ) → sameBytes xs ys ≡ true → xs ≡ ys
-unfolding sameBytes
-same-list [] [] e = refl
-same-list [] (y ∷ ys) e = absurd (subst T (sym e) tt)
-same-list (x ∷ xs) [] e = absurd (subst T (sym e) tt)
-same-list (x ∷ xs) (y ∷ ys) e =
-    either (eqb x y) (λ h. rw (eqb-true x y h, same-list xs ys (rw h at e))) (λ h. absurd (subst T (sym (rw h at e)) tt))
+pub same_list : (xs ys : List ℕ) → same_bytes xs ys ≡ true → xs ≡ ys
+unfolding same_bytes
+same_list [] [] e = refl
+same_list [] (y ∷ ys) e = absurd (subst T (sym e) tt)
+same_list (x ∷ xs) [] e = absurd (subst T (sym e) tt)
+same_list (x ∷ xs) (y ∷ ys) e =
+    either (eqb x y) (λ h. rw (eqb-true x y h, same_list xs ys (rw h at e))) (λ h. absurd (subst T (sym (rw h at e)) tt))
 
-pub same_word : (f : List ℕ) {w v : List ℕ} {b : Bool} → b ≡ sameBytes f w → w ≡ v → sameBytes f v ≡ b
-same_word f e h = ap (sameBytes f) (sym h) ∙ sym e
+pub same_word : (f : List ℕ) {w v : List ℕ} {b : Bool} → b ≡ same_bytes f w → w ≡ v → same_bytes f v ≡ b
+same_word f e h = ap (same_bytes f) (sym h) ∙ sym e
 
-pub other_length : (xs ys : List ℕ) → (length xs ≡ length ys → ⊥) → sameBytes xs ys ≡ false
-unfolding sameBytes
+pub other_length : (xs ys : List ℕ) → (length xs ≡ length ys → ⊥) → same_bytes xs ys ≡ false
+unfolding same_bytes
 other_length [] [] n = absurd (n refl)
 other_length [] (y ∷ ys) n = refl
 other_length (x ∷ xs) [] n = refl
@@ -74,14 +74,14 @@ other_length (x ∷ xs) (y ∷ ys) n = either (eqb x y) (λ e. rw e (other_lengt
 
 module _ (s word : List ℕ) (i j to : ℕ) where
   module _ (h : j < to) (k : to ≤ length s) (g : i < length word) where
-    pub same_more : get_or s j 0 ≡ get_or word i 0 → sameBytes (slice j to s) (drop i word) ≡ sameBytes (slice (j + 1) to s) (drop (i + 1) word)
-    unfolding sameBytes
+    pub same_more : get_or s j 0 ≡ get_or word i 0 → same_bytes (slice j to s) (drop i word) ≡ same_bytes (slice (j + 1) to s) (drop (i + 1) word)
+    unfolding same_bytes
     same_more e = rw (add-one j, add-one i, slice-cons j to s 0 h k, drop-cons word i 0 g, eq-eqb _ _ e)
 
-    pub same-less : (get_or s j 0 ≡ get_or word i 0 → ⊥) → sameBytes (slice j to s) (drop i word) ≡ false
-    unfolding sameBytes
-    same-less n = rw (slice-cons j to s 0 h k, drop-cons word i 0 g, ne_eqb _ _ n)
+    pub same_less : (get_or s j 0 ≡ get_or word i 0 → ⊥) → same_bytes (slice j to s) (drop i word) ≡ false
+    unfolding same_bytes
+    same_less n = rw (slice-cons j to s 0 h k, drop-cons word i 0 g, ne_eqb _ _ n)
 
-  pub same_end : j ≡ to → length word ≤ i → sameBytes (slice j to s) (drop i word) ≡ true
-  unfolding sameBytes
+  pub same_end : j ≡ to → length word ≤ i → same_bytes (slice j to s) (drop i word) ≡ true
+  unfolding same_bytes
   same_end e h = rw (e, slice_empty to s, drop_of_length-le word h)

@@ -4,35 +4,35 @@ use native.Mathlib.Nat.{zero-min, min-zero, suc-min-suc}
 use lib.Seq.{slice, take-nil, drop-append-le}
 use borrow.Author.Tests.{eqb-false}
 use Rattle.algebra.proofs.Test.{either}
-use Rattle.scan.specs.Find.{before, findByte}
+use Rattle.scan.specs.Find.{before, find_byte}
 
 -- ---- byte by byte
 module _ (m : ℕ) (s : List ℕ) (i : ℕ) where
-  pub found_here : i < length s → get_or s i 0 ≡ m → findByte m s i ≡ i
+  pub found_here : i < length s → get_or s i 0 ≡ m → find_byte m s i ≡ i
   unfolding before
   found_here h e = rw (drop-cons s i 0 h, eq-eqb _ _ e) (omega arith)
 
-  pub found-later : i < length s → (get_or s i 0 ≡ m → ⊥) → findByte m s i ≡ findByte m s (i + 1)
+  pub found_later : i < length s → (get_or s i 0 ≡ m → ⊥) → find_byte m s i ≡ find_byte m s (i + 1)
   unfolding before
-  found-later h n = rw (add-one, drop-cons s i 0 h, ne_eqb _ _ n) (omega arith)
+  found_later h n = rw (add-one, drop-cons s i 0 h, ne_eqb _ _ n) (omega arith)
 
-  pub found_none : length s ≤ i → findByte m s i ≡ i
+  pub found_none : length s ≤ i → find_byte m s i ≡ i
   unfolding before
   found_none h = rw (drop_of_length-le s h) (omega arith)
 
-  pub passed : i < length s → (get_or s i 0 ≡ m → ⊥) → i < findByte m s i
-  passed h n = omega (arith, found-later h n)
+  pub passed : i < length s → (get_or s i 0 ≡ m → ⊥) → i < find_byte m s i
+  passed h n = omega (arith, found_later h n)
 
 -- ---- a search that has come to i: there it is, or it goes on
-module _ (m : ℕ) (s : List ℕ) (from i : ℕ) (e : findByte m s i ≡ findByte m s from) where
-  pub search-ends : i < length s → get_or s i 0 ≡ m → i ≡ findByte m s from
-  search-ends h k = sym (found_here m s i h k) ∙ e
+module _ (m : ℕ) (s : List ℕ) (from i : ℕ) (e : find_byte m s i ≡ find_byte m s from) where
+  pub search_ends : i < length s → get_or s i 0 ≡ m → i ≡ find_byte m s from
+  search_ends h k = sym (found_here m s i h k) ∙ e
 
-  pub search-over : length s ≤ i → i ≡ findByte m s from
-  search-over h = sym (found_none m s i h) ∙ e
+  pub search_over : length s ≤ i → i ≡ find_byte m s from
+  search_over h = sym (found_none m s i h) ∙ e
 
-  pub search-more : (j : ℕ) → j ≡ i + 1 → i < length s → (get_or s i 0 ≡ m → ⊥) → findByte m s j ≡ findByte m s from
-  search-more j k h n = ap (findByte m s) k ∙ (sym (found-later m s i h n) ∙ e)
+  pub search_more : (j : ℕ) → j ≡ i + 1 → i < length s → (get_or s i 0 ≡ m → ⊥) → find_byte m s j ≡ find_byte m s from
+  search_more j k h n = ap (find_byte m s) k ∙ (sym (found_later m s i h n) ∙ e)
 
 -- ---- what lies up to it: bytes that are not m
 abbrev pub Without : ℕ → List ℕ → Type 0
@@ -45,34 +45,34 @@ pub record Ended (m : ℕ) (s : List ℕ) (from r : ℕ) : Type 0 where
   pub plain : Without m (slice from r s)
   pub mark : r < length s → get_or s r 0 ≡ m
 
-before-most : (m : ℕ) (l : List ℕ) → before m l ≤ length l
+before_most : (m : ℕ) (l : List ℕ) → before m l ≤ length l
 unfolding before
-before-most m [] = omega arith
-before-most m (c ∷ cs) = either (eqb c m) (λ e. rw e (omega arith)) (λ e. rw e (omega (arith, before-most m cs)))
+before_most m [] = omega arith
+before_most m (c ∷ cs) = either (eqb c m) (λ e. rw e (omega arith)) (λ e. rw e (omega (arith, before_most m cs)))
 
-before-plain : (m : ℕ) (l : List ℕ) → Without m (take (before m l) l)
+before_plain : (m : ℕ) (l : List ℕ) → Without m (take (before m l) l)
 unfolding before
-before-plain m [] = tt
-before-plain m (c ∷ cs) = either (eqb c m) (λ e. rw e tt) (λ e. rw e (eqb-false c m e, before-plain m cs))
+before_plain m [] = tt
+before_plain m (c ∷ cs) = either (eqb c m) (λ e. rw e tt) (λ e. rw e (eqb-false c m e, before_plain m cs))
 
-before-mark : (m : ℕ) (l : List ℕ) → before m l < length l → get_or l (before m l) 0 ≡ m
+before_mark : (m : ℕ) (l : List ℕ) → before m l < length l → get_or l (before m l) 0 ≡ m
 unfolding before
-before-mark m [] h = absurd (none h)
+before_mark m [] h = absurd (none h)
   where
     none : 0 < 0 → ⊥
     none h = omega arith
-before-mark m (c ∷ cs) h =
-    either (eqb c m) (λ e. rw e (eqb-true c m e)) (λ e. rw e (before-mark m cs (let k = rw e at h in omega arith)))
+before_mark m (c ∷ cs) h =
+    either (eqb c m) (λ e. rw e (eqb-true c m e)) (λ e. rw e (before_mark m cs (let k = rw e at h in omega arith)))
 
 -- a mark that stands in the front of a list stands first in the list
-pub before-take : (m n : ℕ) (l : List ℕ) → before m (take n l) < length (take n l) → before m l ≡ before m (take n l)
+pub before_take : (m n : ℕ) (l : List ℕ) → before m (take n l) < length (take n l) → before m l ≡ before m (take n l)
 unfolding before
-before-take m zero l h = absurd (none h)
+before_take m zero l h = absurd (none h)
   where
     none : 0 < 0 → ⊥
     none h = omega arith
-before-take m (suc n) [] h = refl
-before-take m (suc n) (c ∷ cs) h = either (eqb c m) (λ e. rw e) (λ e. rw e (ap suc (before-take m n cs (let k = rw e at h in omega arith))))
+before_take m (suc n) [] h = refl
+before_take m (suc n) (c ∷ cs) h = either (eqb c m) (λ e. rw e) (λ e. rw e (ap suc (before_take m n cs (let k = rw e at h in omega arith))))
 
 -- a part of a list, as the machine takes it
 pub part_slice : (from to : ℕ) (s : List ℕ) → from ≤ to → take (to - from) (drop from s) ≡ slice from to s
@@ -86,17 +86,17 @@ part_slice (suc from) (suc to) (x ∷ s) h =
     let e : suc to - suc from ≡ to - from = omega arith in
     rw e (part_slice from to s (omega arith))
 
-pub ended : {m : ℕ} {s : List ℕ} {from r : ℕ} → from ≤ length s → r ≡ findByte m s from → Ended m s from r
+pub ended : {m : ℕ} {s : List ℕ} {from r : ℕ} → from ≤ length s → r ≡ find_byte m s from → Ended m s from r
 ended {m} {s} {from} {r} h e =
     let l = drop from s in
     let low : from ≤ r = omega arith in
     let n : r - from ≡ before m l = omega arith in
-    let most : before m l ≤ length s - from = rw length-drop at (before-most m l) in
+    let most : before m l ≤ length s - from = rw length-drop at (before_most m l) in
     record {
       low = low;
       high = omega arith;
-      plain = rw (← part_slice from r s low, n) (before-plain m l);
-      mark = λ k. ap (λ (i : ℕ). get_or s i 0) e ∙ (sym (get_or-drop from s (before m l) 0) ∙ before-mark m l (rw length-drop (omega arith)));
+      plain = rw (← part_slice from r s low, n) (before_plain m l);
+      mark = λ k. ap (λ (i : ℕ). get_or s i 0) e ∙ (sym (get_or-drop from s (before m l) 0) ∙ before_mark m l (rw length-drop (omega arith)));
     }
 
 -- the list from `from` on, parted there
@@ -106,15 +106,15 @@ parted {s = s} {from} {r} f =
     ap (drop from) (sym (take-append-drop r s)) ∙ drop-append-le from (take r s) (drop r s) n
 
 -- ---- a part that is cut to the list
-take-cut : (n : ℕ) (l : List ℕ) → take (min n (length l)) l ≡ take n l
-take-cut zero l = rw zero-min
-take-cut (suc n) [] = rw min-zero
-take-cut (suc n) (x ∷ l) = rw suc-min-suc (ap (◌∷◌ x) (take-cut n l))
+take_cut : (n : ℕ) (l : List ℕ) → take (min n (length l)) l ≡ take n l
+take_cut zero l = rw zero-min
+take_cut (suc n) [] = rw min-zero
+take_cut (suc n) (x ∷ l) = rw suc-min-suc (ap (◌∷◌ x) (take_cut n l))
 
-drop-cut : (n : ℕ) (l : List ℕ) → drop (min n (length l)) l ≡ drop n l
-drop-cut zero l = rw zero-min
-drop-cut (suc n) [] = rw min-zero
-drop-cut (suc n) (x ∷ l) = rw suc-min-suc (drop-cut n l)
+drop_cut : (n : ℕ) (l : List ℕ) → drop (min n (length l)) l ≡ drop n l
+drop_cut zero l = rw zero-min
+drop_cut (suc n) [] = rw min-zero
+drop_cut (suc n) (x ∷ l) = rw suc-min-suc (drop_cut n l)
 
 -- from start up to end, which are from and to cut
 pub record Cut (from to : ℕ) (s : List ℕ) (start end : ℕ) : Type 0 where
@@ -124,7 +124,7 @@ pub record Cut (from to : ℕ) (s : List ℕ) (start end : ℕ) : Type 0 where
 
 pub cut : {from to : ℕ} {s : List ℕ} {start end : ℕ} → end ≡ min to (length s) → start ≡ min from end → Cut from to s start end
 cut {from} {to} {s} {start} {end} e f = record {
-  same = rw (f, e, take-cut to s, ← length-take to s) (drop-cut from (take to s));
+  same = rw (f, e, take_cut to s, ← length-take to s) (drop_cut from (take to s));
   low = omega arith;
   high = omega arith;
 }

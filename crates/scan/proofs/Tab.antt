@@ -5,20 +5,20 @@ use borrow.Author.Tests.{eqb-false}
 use Rattle.algebra.proofs.Test.{either}
 use Rattle.scan.specs.declared.Natural.{Natural}
 use Rattle.scan.specs.declared.Number.{Number}
-use Rattle.scan.specs.Decimal.{up_to, readNatural, readNumber, plus, minus, value}
-use Rattle.scan.specs.Find.{findByte}
+use Rattle.scan.specs.Decimal.{up_to, read_natural, read_number, plus, minus, value}
+use Rattle.scan.specs.Find.{find_byte}
 use Rattle.scan.specs.Code.{ends_at, Worth, UpToTab}
-use Rattle.scan.proofs.Find.{Without, Ended, ended, found_here, found-later, found_none, passed}
-use Rattle.scan.proofs.Read.{no_number, natural-long, number_is}
-use Rattle.scan.proofs.Joined.{number-without}
-use Rattle.scan.proofs.Scan.{value-end, value-other, read_none, read-lead, read-zero, read-digits, number-none, number-minus, number-plus}
+use Rattle.scan.proofs.Find.{Without, Ended, ended, found_here, found_later, found_none, passed}
+use Rattle.scan.proofs.Read.{no_number, natural_long, number_is}
+use Rattle.scan.proofs.Joined.{number_without}
+use Rattle.scan.proofs.Scan.{value_end, value_other, read_none, read_lead, read_zero, read_digits, number_none, number_minus, number_plus}
 use Rattle.scan.specs.declared.Natural.TheVariants as nat
 use Rattle.scan.specs.declared.Number.TheVariants as num
 
 -- ---- where a field ends, and where it goes on
 module _ (s : List ℕ) (i : ℕ) where
-  pub ends-here : ends_at s i ≡ true → findByte 9 s i ≡ i
-  ends-here h =
+  pub ends_here : ends_at s i ≡ true → find_byte 9 s i ≡ i
+  ends_here h =
       either (ltb i (length s)) (λ e. found_here 9 s i (ltb-true _ _ e) (eqb-true _ _ (rw e at h)))
       (λ e. found_none 9 s i (ltb-false _ _ e))
 
@@ -29,98 +29,98 @@ module _ (s : List ℕ) (i : ℕ) where
       none : true ≡ false → ⊥
       none e = subst T e tt
 
-field : (s : List ℕ) (from : ℕ) → from ≤ length s → Ended 9 s from (findByte 9 s from)
+field : (s : List ℕ) (from : ℕ) → from ≤ length s → Ended 9 s from (find_byte 9 s from)
 field s from h = ended h refl
 
 -- ---- none is told as none, whatever the end
-pub none-there : {A : Type 0} {none : A} {read : List ℕ → A} {s : List ℕ} {from : ℕ} {a : A} {end : ℕ} (other : ℕ) →
+pub none_there : {A : Type 0} {none : A} {read : List ℕ → A} {s : List ℕ} {from : ℕ} {a : A} {end : ℕ} (other : ℕ) →
     UpToTab none read s from a end → a ≡ none → UpToTab none read s from none other
-none-there other u e = record { is = sym e ∙ u.is; ends = inl refl }
+none_there other u e = record { is = sym e ∙ u.is; ends = inl refl }
 
-pub some-there : {A : Type 0} {none : A} {read : List ℕ → A} {s : List ℕ} {from : ℕ} {a b : A} {end : ℕ} →
+pub some_there : {A : Type 0} {none : A} {read : List ℕ → A} {s : List ℕ} {from : ℕ} {a b : A} {end : ℕ} →
     UpToTab none read s from a end → a ≡ b → UpToTab none read s from b end
-some-there u e = rw e at u
+some_there u e = rw e at u
 
 -- ---- a size
 module _ (s : List ℕ) (from : ℕ) where
-  pub size_none : findByte 9 s from ≡ from → {end : ℕ} → UpToTab nat.Not readNatural s from nat.Not end
-  size_none e = record { is = sym (read_none s from (findByte 9 s from) (sym e)); ends = inl refl }
+  pub size_none : find_byte 9 s from ≡ from → {end : ℕ} → UpToTab nat.Not read_natural s from nat.Not end
+  size_none e = record { is = sym (read_none s from (find_byte 9 s from) (sym e)); ends = inl refl }
 
   module _ (h : from < length s) (z : get_or s from 0 ≡ 48) where
-    later : findByte 9 s from ≡ findByte 9 s (from + 1)
-    later = found-later 9 s from h (λ e. omega arith)
+    later : find_byte 9 s from ≡ find_byte 9 s (from + 1)
+    later = found_later 9 s from h (λ e. omega arith)
 
-    pub size-zero : ends_at s (from + 1) ≡ true → UpToTab nat.Not readNatural s from (nat.Is 0) (from + 1)
-    size-zero t =
-        let e = later ∙ ends-here s (from + 1) t in
+    pub size_zero : ends_at s (from + 1) ≡ true → UpToTab nat.Not read_natural s from (nat.Is 0) (from + 1)
+    size_zero t =
+        let e = later ∙ ends_here s (from + 1) t in
         record {
-          is = sym (read-zero s from (findByte 9 s from) (omega arith) (field s from (omega arith)).high z (omega arith));
+          is = sym (read_zero s from (find_byte 9 s from) (omega arith) (field s from (omega arith)).high z (omega arith));
           ends = inr (sym e);
         }
 
-    pub size-lead : ends_at s (from + 1) ≡ false → {end : ℕ} → UpToTab nat.Not readNatural s from nat.Not end
-    size-lead t =
+    pub size_lead : ends_at s (from + 1) ≡ false → {end : ℕ} → UpToTab nat.Not read_natural s from nat.Not end
+    size_lead t =
         let g = goes_on s (from + 1) t in
         let p = passed 9 s (from + 1) g.0 g.1 in
         let e = later in
         record {
-          is = sym (read-lead s from (findByte 9 s from) (omega arith) (field s from (omega arith)).high z (omega arith));
+          is = sym (read_lead s from (find_byte 9 s from) (omega arith) (field s from (omega arith)).high z (omega arith));
           ends = inl refl;
         }
 
 -- ---- digits that are worth v, and do not begin with 0
 module _ {s : List ℕ} {from to v end : ℕ} (h : from < length s) (n : get_or s from 0 ≡ 48 → ⊥) (w : Worth s from to v end) where
   abbrev tab : ℕ
-  tab = findByte 9 s from
+  tab = find_byte 9 s from
 
   high : tab ≤ length s
   high = (field s from (omega arith)).high
 
-  read : from < tab → readNatural (slice from tab s) ≡ up_to (2 ^ 63) (value v (slice end tab s))
-  read k = read-digits s from tab k high n ∙ ap (up_to (2 ^ 63)) (sym w.same)
+  read : from < tab → read_natural (slice from tab s) ≡ up_to (2 ^ 63) (value v (slice end tab s))
+  read k = read_digits s from tab k high n ∙ ap (up_to (2 ^ 63)) (sym w.same)
 
-  pub worth-ended : ends_at s end ≡ true → (end ≡ from → ⊥) → (tab ≡ end) × (readNatural (slice from tab s) ≡ up_to (2 ^ 63) (nat.Is v))
-  worth-ended t k =
-      let e : tab ≡ end = sym w.tab ∙ ends-here s end t in
+  pub worth_ended : ends_at s end ≡ true → (end ≡ from → ⊥) → (tab ≡ end) × (read_natural (slice from tab s) ≡ up_to (2 ^ 63) (nat.Is v))
+  worth_ended t k =
+      let e : tab ≡ end = sym w.tab ∙ ends_here s end t in
       let low = w.low in
-      (e, read (omega arith) ∙ ap (up_to (2 ^ 63)) (value-end s end tab v (sym e)))
+      (e, read (omega arith) ∙ ap (up_to (2 ^ 63)) (value_end s end tab v (sym e)))
 
-  pub worth-broken : to ≡ from + min (length s - from) 19 → ends_at s end ≡ false → readNatural (slice from tab s) ≡ nat.Not
-  worth-broken e t =
+  pub worth_broken : to ≡ from + min (length s - from) 19 → ends_at s end ≡ false → read_natural (slice from tab s) ≡ nat.Not
+  worth_broken e t =
       let g = goes_on s end t in
       let p : end < tab = omega (arith, passed 9 s end g.0 g.1, w.tab) in
       let low = w.low in
-      either (ltb end to) (λ l. read (omega arith) ∙ ap (up_to (2 ^ 63)) (value-other s end tab v p high (w.other (ltb-true _ _ l))))
-      (λ l. natural-long (slice from tab s) (omega (arith, length-slice from tab s high, ltb-false end to l, g.0)))
+      either (ltb end to) (λ l. read (omega arith) ∙ ap (up_to (2 ^ 63)) (value_other s end tab v p high (w.other (ltb-true _ _ l))))
+      (λ l. natural_long (slice from tab s) (omega (arith, length-slice from tab s high, ltb-false end to l, g.0)))
 
 -- ---- a number, by its sign
 module _ (s : List ℕ) (from : ℕ) (h : from < length s) {n : Natural} {end : ℕ} where
-  pub field-minus : get_or s from 0 ≡ 45 → UpToTab nat.Not readNatural s (from + 1) n end → UpToTab num.Not readNumber s from (minus n) end
-  field-minus m u =
-      let e : findByte 9 s from ≡ findByte 9 s (from + 1) = found-later 9 s from h (λ e. omega arith) in
-      let k = number-minus s from (findByte 9 s from) (omega arith) (field s from (omega arith)).high m in
+  pub field_minus : get_or s from 0 ≡ 45 → UpToTab nat.Not read_natural s (from + 1) n end → UpToTab num.Not read_number s from (minus n) end
+  field_minus m u =
+      let e : find_byte 9 s from ≡ find_byte 9 s (from + 1) = found_later 9 s from h (λ e. omega arith) in
+      let k = number_minus s from (find_byte 9 s from) (omega arith) (field s from (omega arith)).high m in
       record {
-        is = ap minus u.is ∙ (ap (λ (t : ℕ). minus (readNatural (slice (from + 1) t s))) (sym e) ∙ sym k);
+        is = ap minus u.is ∙ (ap (λ (t : ℕ). minus (read_natural (slice (from + 1) t s))) (sym e) ∙ sym k);
         ends = ⊎_elim (λ z. inl (ap minus z)) (λ z. inr (z ∙ sym e)) u.ends;
       }
 
-  pub field-plus : (get_or s from 0 ≡ 45 → ⊥) → UpToTab nat.Not readNatural s from n end → UpToTab num.Not readNumber s from (plus n) end
-  field-plus m u = record { is = ap plus u.is ∙ sym same; ends = ⊎_elim (λ z. inl (ap plus z)) inr u.ends }
+  pub field_plus : (get_or s from 0 ≡ 45 → ⊥) → UpToTab nat.Not read_natural s from n end → UpToTab num.Not read_number s from (plus n) end
+  field_plus m u = record { is = ap plus u.is ∙ sym same; ends = ⊎_elim (λ z. inl (ap plus z)) inr u.ends }
     where
-      same : readNumber (slice from (findByte 9 s from) s) ≡ plus (readNatural (slice from (findByte 9 s from) s))
+      same : read_number (slice from (find_byte 9 s from) s) ≡ plus (read_natural (slice from (find_byte 9 s from) s))
       same =
-          let t = findByte 9 s from in
+          let t = find_byte 9 s from in
           either (eqb (get_or s from 0) 9)
-          (λ e. let z = sym (found_here 9 s from h (eqb-true _ _ e)) in number-none s from t z ∙ sym (ap plus (read_none s from t z)))
-          (λ e. number-plus s from t (passed 9 s from h (eqb-false _ _ e)) (field s from (omega arith)).high m)
+          (λ e. let z = sym (found_here 9 s from h (eqb-true _ _ e)) in number_none s from t z ∙ sym (ap plus (read_none s from t z)))
+          (λ e. number_plus s from t (passed 9 s from h (eqb-false _ _ e)) (field s from (omega arith)).high m)
 
-pub field-none : (s : List ℕ) (from : ℕ) → length s ≤ from → {end : ℕ} → UpToTab num.Not readNumber s from num.Not end
-field-none s from h =
-    record { is = sym (number-none s from (findByte 9 s from) (sym (found_none 9 s from h))); ends = inl refl }
+pub field_none : (s : List ℕ) (from : ℕ) → length s ≤ from → {end : ℕ} → UpToTab num.Not read_number s from num.Not end
+field_none s from h =
+    record { is = sym (number_none s from (find_byte 9 s from) (sym (found_none 9 s from h))); ends = inl refl }
 
 -- a field that is a number ends where it says
-pub field_end : {s : List ℕ} {from : ℕ} {a : Number} {end : ℕ} (z : ℤ) → UpToTab num.Not readNumber s from a end → a ≡ num.Is z →
-    end ≡ findByte 9 s from
+pub field_end : {s : List ℕ} {from : ℕ} {a : Number} {end : ℕ} (z : ℤ) → UpToTab num.Not read_number s from a end → a ≡ num.Is z →
+    end ≡ find_byte 9 s from
 field_end z u e = ⊎_elim (λ n. no_number z (sym n ∙ e)) (λ k. k) u.ends
 
 -- ---- a whole list read as a field: with a tab in it, it is no number
@@ -129,27 +129,27 @@ without_at m [] k w h e = omega arith
 without_at m (c ∷ l) zero w h e = w.0 e
 without_at m (c ∷ l) (suc k) w h e = without_at m l k w.1 (omega arith) e
 
-number-tab : (l : List ℕ) (k : ℕ) → k < length l → get_or l k 0 ≡ 9 → readNumber l ≡ num.Not
-number-tab l k h e = go (readNumber l) refl
+number_tab : (l : List ℕ) (k : ℕ) → k < length l → get_or l k 0 ≡ 9 → read_number l ≡ num.Not
+number_tab l k h e = go (read_number l) refl
   where
-    go : (n : Number) → readNumber l ≡ n → n ≡ num.Not
+    go : (n : Number) → read_number l ≡ n → n ≡ num.Not
     go num.Not r = refl
     go (num.Is z) r =
-        let w : Without 9 l = rw (number_is l z r).written (number-without 9 z (omega arith)) in
+        let w : Without 9 l = rw (number_is l z r).written (number_without 9 z (omega arith)) in
         absurd (without_at 9 l k w h e)
 
-module _ {l : List ℕ} {a : Number} {end : ℕ} (u : UpToTab num.Not readNumber l 0 a end) where
+module _ {l : List ℕ} {a : Number} {end : ℕ} (u : UpToTab num.Not read_number l 0 a end) where
   abbrev stop : ℕ
-  stop = findByte 9 l 0
+  stop = find_byte 9 l 0
 
-  whole : length l ≤ stop → a ≡ readNumber l
-  whole h = u.is ∙ ap readNumber (take_all stop l h)
+  whole : length l ≤ stop → a ≡ read_number l
+  whole h = u.is ∙ ap read_number (take_all stop l h)
 
-  parted : stop < length l → readNumber l ≡ num.Not
-  parted h = number-tab l stop h ((field l 0 (omega arith)).mark h)
+  parted : stop < length l → read_number l ≡ num.Not
+  parted h = number_tab l stop h ((field l 0 (omega arith)).mark h)
 
-  pub read-to-end : length l ≤ end → a ≡ readNumber l
-  read-to-end h =
+  pub read_to_end : length l ≤ end → a ≡ read_number l
+  read_to_end h =
       either (ltb stop (length l))
       (λ e. ⊎_elim (λ n. n ∙ sym (parted (ltb-true _ _ e))) (λ k. absurd (none k (ltb-true _ _ e))) u.ends)
       (λ e. whole (ltb-false _ _ e))
@@ -157,8 +157,8 @@ module _ {l : List ℕ} {a : Number} {end : ℕ} (u : UpToTab num.Not readNumber
       none : end ≡ stop → stop < length l → ⊥
       none k g = omega arith
 
-  pub read-not-to-end : end < length l → num.Not ≡ readNumber l
-  read-not-to-end h =
+  pub read_not_to_end : end < length l → num.Not ≡ read_number l
+  read_not_to_end h =
       either (ltb stop (length l)) (λ e. sym (parted (ltb-true _ _ e)))
       (λ e. ⊎_elim (λ n. sym n ∙ whole (ltb-false _ _ e)) (λ k. absurd (none k (ltb-false _ _ e))) u.ends)
     where

@@ -2,7 +2,7 @@
 use Rattle.std.specs.Prelude.{◌≡◌, ℕ, ◌<◌, ◌≤◌, Bool, true, cond, ◌⊎◌, List, length, ◌==◌, nat_lt, slice_index}
 use Rattle.std.proofs.Math.Seq.{slice}
 use Rattle.scan.specs.Decimal.{value}
-use Rattle.scan.specs.Find.{findByte}
+use Rattle.scan.specs.Find.{find_byte}
 
 -- a field ends at i: at a tab, or at the end of s
 abbrev pub ends_at : List ℕ → ℕ → Bool
@@ -12,11 +12,11 @@ ends_at s i = cond (nat_lt i (length s)) (slice_index s i == 9) true
 pub record Worth (s : List ℕ) (from to v end : ℕ) : Type 0 where
   pub low : from ≤ end
   pub high : end ≤ to
-  pub tab : findByte 9 s end ≡ findByte 9 s from
-  pub same : value v (slice end (findByte 9 s from) s) ≡ value 0 (slice from (findByte 9 s from) s)
+  pub tab : find_byte 9 s end ≡ find_byte 9 s from
+  pub same : value v (slice end (find_byte 9 s from) s) ≡ value 0 (slice from (find_byte 9 s from) s)
   pub other : end < to → 48 ≤ slice_index s end → slice_index s end ≤ 57 → ⊥
 
 -- a is what a field reads as that begins at `from`, and unless it is none, the field ends at end
 pub record UpToTab {A : Type 0} (none : A) (read : List ℕ → A) (s : List ℕ) (from : ℕ) (a : A) (end : ℕ) : Type 0 where
-  pub is : a ≡ read (slice from (findByte 9 s from) s)
-  pub ends : (a ≡ none) ⊎ (end ≡ findByte 9 s from)
+  pub is : a ≡ read (slice from (find_byte 9 s from) s)
+  pub ends : (a ≡ none) ⊎ (end ≡ find_byte 9 s from)

@@ -15,9 +15,9 @@ up_to m nat.Not = nat.Not
 up_to m (nat.Is v) = cond (nat_le v m) (nat.Is v) nat.Not
 
 -- digits, one at least, no leading zero but for 0 itself; no size is over 2^63
-unfoldable pub readNatural : List ℕ → Natural
-readNatural [] = nat.Not
-readNatural (d ∷ ds) = cond (d == 48) (cond (nat_lt 0 (length ds)) nat.Not (nat.Is 0)) (up_to (2 ^ 63) (value 0 (d ∷ ds)))
+unfoldable pub read_natural : List ℕ → Natural
+read_natural [] = nat.Not
+read_natural (d ∷ ds) = cond (d == 48) (cond (nat_lt 0 (length ds)) nat.Not (nat.Is 0)) (up_to (2 ^ 63) (value 0 (d ∷ ds)))
 
 -- at most 2^63 − 1
 abbrev pub plus : Natural → Number
@@ -30,6 +30,6 @@ minus nat.Not = num.Not
 minus (nat.Is v) = cond (v == 0) num.Not (num.Is (negsuc (v - 1)))
 
 -- an optional minus and digits
-unfoldable pub readNumber : List ℕ → Number
-readNumber [] = num.Not
-readNumber (c ∷ cs) = cond (c == 45) (minus (readNatural cs)) (plus (readNatural (c ∷ cs)))
+unfoldable pub read_number : List ℕ → Number
+read_number [] = num.Not
+read_number (c ∷ cs) = cond (c == 45) (minus (read_natural cs)) (plus (read_natural (c ∷ cs)))

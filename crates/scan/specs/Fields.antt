@@ -14,8 +14,8 @@ fields l = split 9 [] l
 abbrev pub fields_at : List ℕ → ℕ → List (List ℕ)
 fields_at l at = cond (nat_lt (length l) at) [] (fields (drop at l))
 
-unfoldable pub sameBytes : List ℕ → List ℕ → Bool
-sameBytes [] [] = true
-sameBytes [] (y ∷ ys) = false
-sameBytes (x ∷ xs) [] = false
-sameBytes (x ∷ xs) (y ∷ ys) = cond (x == y) (sameBytes xs ys) false
+unfoldable pub same_bytes : List ℕ → List ℕ → Bool
+same_bytes [] [] = true
+same_bytes [] (y ∷ ys) = false
+same_bytes (x ∷ xs) [] = false
+same_bytes (x ∷ xs) (y ∷ ys) = cond (x == y) (same_bytes xs ys) false

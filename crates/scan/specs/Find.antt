@@ -7,5 +7,5 @@ before m [] = 0
 before m (c ∷ cs) = cond (c == m) 0 (suc (before m cs))
 
 -- the place of the first m from `from` on, or the end; behind the end, `from`
-abbrev pub findByte : ℕ → List ℕ → ℕ → ℕ
-findByte m s from = from + before m (drop from s)
+abbrev pub find_byte : ℕ → List ℕ → ℕ → ℕ
+find_byte m s from = from + before m (drop from s)

@@ -2,10 +2,10 @@
 // function is total: a part of a slice is cut to the slice.
 ghost use Rattle.std.specs.Prelude.{◌≡◌, ◌+◌, ◌≤◌, min, length};
 ghost use Rattle.std.proofs.Math.Seq.{slice};
-ghost use Rattle.scan.specs.Decimal.{readNatural, readNumber};
-ghost use Rattle.scan.specs.Find.{findByte};
-ghost use Rattle.scan.specs.Fields.{fields_at, sameBytes};
-ghost use Rattle.scan.specs.Numbers.{numbers, areThere, stored};
+ghost use Rattle.scan.specs.Decimal.{read_natural, read_number};
+ghost use Rattle.scan.specs.Find.{find_byte};
+ghost use Rattle.scan.specs.Fields.{fields_at, same_bytes};
+ghost use Rattle.scan.specs.Numbers.{numbers, are_there, stored};
 ghost use Rattle.scan.specs.Code.{ends_at, Worth, UpToTab};
 
 // A size that stands in a field, or none.
@@ -45,7 +45,7 @@ struct NumberField {
 
 // Where `byte` stands first in s from `from` on, or the end of s; behind the end, `from`. Four bytes a turn, as long as there are four.
 pub fn find_byte(s: &[u8], from: usize, byte: u8) -> usize
-    ensures { result ≡ findByte byte s.now from }
+    ensures { result ≡ find_byte byte s.now from }
 {
     if s.len() < from {
         return from;
@@ -112,7 +112,7 @@ fn read_digits(s: &[u8], from: usize, to: usize) -> Digits
 // The size that stands from `from` up to a tab or the end of s.
 fn read_natural(s: &[u8], from: usize) -> NaturalField
     requires { from ≤ length s.now }
-    ensures { UpToTab Natural.Not readNatural s.now from result.natural result.end }
+    ensures { UpToTab Natural.Not read_natural s.now from result.natural result.end }
 {
     let none = NaturalField {
         natural: Natural::Not,
@@ -153,7 +153,7 @@ fn read_natural(s: &[u8], from: usize) -> NaturalField
 // The number that stands from `from` up to a tab or the end of s.
 fn read_field(s: &[u8], from: usize) -> NumberField
     requires { from ≤ length s.now }
-    ensures { UpToTab Number.Not readNumber s.now from result.number result.end }
+    ensures { UpToTab Number.Not read_number s.now from result.number result.end }
 {
     let none = NumberField {
         number: Number::Not,
@@ -194,7 +194,7 @@ fn read_field(s: &[u8], from: usize) -> NumberField
 
 // The number that stands from `from` up to `to`, as far as s goes.
 pub fn read_number(s: &[u8], from: usize, to: usize) -> Number
-    ensures { result ≡ readNumber (slice from to s.now) }
+    ensures { result ≡ read_number (slice from to s.now) }
 {
     let end = least(to, s.len());
     let start = least(from, end);
@@ -211,7 +211,7 @@ pub fn read_number(s: &[u8], from: usize, to: usize) -> Number
 
 // Whether the bytes from `from` up to `to`, as far as s goes, are those of `word`.
 pub fn same_bytes(s: &[u8], from: usize, to: usize, word: &[u8]) -> bool
-    ensures { result ≡ sameBytes (slice from to s.now) word.now }
+    ensures { result ≡ same_bytes (slice from to s.now) word.now }
 {
     let end = least(to, s.len());
     let start = least(from, end);
@@ -232,7 +232,7 @@ pub fn same_bytes(s: &[u8], from: usize, to: usize, word: &[u8]) -> bool
 
 // Whether the fields from `at` on are as many numbers as `into` holds, and no more. Each goes to its place, up to the first that is none.
 pub fn read_numbers(s: &[u8], at: usize, into: &mut [i64]) -> bool
-    ensures value { result ≡ areThere (numbers (length into.old) (fields_at s.now at)) }
+    ensures value { result ≡ are_there (numbers (length into.old) (fields_at s.now at)) }
     ensures into { into.new ≡ stored into.old (fields_at s.now at) }
 {
     let mut next = at;

@@ -8,8 +8,8 @@ use Rattle.algebra.specs.Gauss.{𝔾, ιᵍ, ◌+ᵍ◌, ◌-ᵍ◌, ◌*ᵍ◌}
 use Rattle.algebra.specs.Size.{Within}
 use Rattle.algebra.proofs.Power.{pow_pos}
 use Rattle.series.specs.Series.{Sᵍ, Dᵍ, Dᶻ}
-use Rattle.series.proofs.Series.{fact, complex-is}
-use Rattle.series.proofs.NearOne.{room, near-one, size}
+use Rattle.series.proofs.Series.{fact, complex_is}
+use Rattle.series.proofs.NearOne.{room, near_one, size}
 use Rattle.series.proofs.Tail.{TailBound, tail_within}
 use Rattle.series.proofs.Carry.{carry}
 use Rattle.series.proofs.Product.{product}
@@ -17,7 +17,7 @@ use Rattle.series.proofs.Product.{product}
 -- E T z over the divisor D T is the exponential
 pub record LawsOf (E : ℕ → 𝔾 → 𝔾) (U T₀ p q c : ℕ) : Type 0 where
   -- |S/D − 1| ≤ r/(1 − r/2), r = ρ/U; room is 2U − ρ
-  pub near-one : {z : 𝔾} {ρ : ℤ} → Within z ρ → ρ ⩽ pos 2 *ℤ pos U → (T : ℕ) → 1 ≤ T →
+  pub near_one : {z : 𝔾} {ρ : ℤ} → Within z ρ → ρ ⩽ pos 2 *ℤ pos U → (T : ℕ) → 1 ≤ T →
       Within (ιᵍ (room U ρ) *ᵍ (E T z -ᵍ Dᵍ U T)) (pos 2 *ℤ ρ *ℤ Dᶻ U T)
   -- |S/D| ≤ (1 + r/2)/(1 − r/2)
   pub size : {z : 𝔾} {ρ : ℤ} → Within z ρ → ρ ⩽ pos 2 *ℤ pos U → (T : ℕ) → 1 ≤ T →
@@ -37,8 +37,8 @@ abbrev pub Laws : (U T₀ p q c : ℕ) → Type 0
 Laws U = LawsOf (Sᵍ U) U
 
 pub laws : (U T₀ p q c : ℕ) → 0 < U → 0 < c → TailBound T₀ p q c → Laws U T₀ p q c
-laws U T₀ p q c U>0 c>0 tb = subst (λ E. LawsOf E U T₀ p q c) (λ i T z. complex-is U T z i) (record {
-  near-one = λ h near T k. near-one U h near T k U>0;
+laws U T₀ p q c U>0 c>0 tb = subst (λ E. LawsOf E U T₀ p q c) (λ i T z. complex_is U T z i) (record {
+  near_one = λ h near T k. near_one U h near T k U>0;
   size = λ h near T k. size U h near T k U>0;
   tail = λ h near n T i k. tail_within T₀ p q c tb U U>0 h near n T i k;
   carry = λ h near. carry T₀ p q c tb c>0 U U>0 h near;
@@ -47,22 +47,22 @@ laws U T₀ p q c U>0 c>0 tb = subst (λ E. LawsOf E U T₀ p q c) (λ i T z. co
 
 -- ---- the numbers
 -- R = 9/4 and 2 at 24 terms; R = 16 at 80 (request E5)
-pub bound-9/4 : TailBound 24 9 4 (2 ^ 50)
+pub bound_9/4 : TailBound 24 9 4 (2 ^ 50)
 unfolding fact
-bound-9/4 = record { a = 91; a-is = refl; a>0 = lit< tt; q>0 = lit< tt; bound = lit≤ tt }
+bound_9/4 = record { a = 91; a_is = refl; a>0 = lit< tt; q>0 = lit< tt; bound = lit≤ tt }
 
-pub bound-2 : TailBound 24 2 1 (2 ^ 54)
+pub bound_2 : TailBound 24 2 1 (2 ^ 54)
 unfolding fact
-bound-2 = record { a = 23; a-is = refl; a>0 = lit< tt; q>0 = lit< tt; bound = lit≤ tt }
+bound_2 = record { a = 23; a_is = refl; a>0 = lit< tt; q>0 = lit< tt; bound = lit≤ tt }
 
-pub bound-16 : TailBound 80 16 1 (2 ^ 74)
+pub bound_16 : TailBound 80 16 1 (2 ^ 74)
 unfolding fact
-bound-16 = record { a = 65; a-is = refl; a>0 = lit< tt; q>0 = lit< tt; bound = lit≤ tt }
+bound_16 = record { a = 65; a_is = refl; a>0 = lit< tt; q>0 = lit< tt; bound = lit≤ tt }
 
 -- at every width F, one is 2^F units
 pub laws_at : (F : ℕ) → Laws (2 ^ F) 24 9 4 (2 ^ 50)
-laws_at F = laws (2 ^ F) 24 9 4 (2 ^ 50) (pow_pos 2 (lit< tt) F) (lit< tt) bound-9/4
+laws_at F = laws (2 ^ F) 24 9 4 (2 ^ 50) (pow_pos 2 (lit< tt) F) (lit< tt) bound_9/4
 
 -- for far arguments (request E5)
-pub laws-far : (F : ℕ) → Laws (2 ^ F) 80 16 1 (2 ^ 74)
-laws-far F = laws (2 ^ F) 80 16 1 (2 ^ 74) (pow_pos 2 (lit< tt) F) (lit< tt) bound-16
+pub laws_far : (F : ℕ) → Laws (2 ^ F) 80 16 1 (2 ^ 74)
+laws_far F = laws (2 ^ F) 80 16 1 (2 ^ 74) (pow_pos 2 (lit< tt) F) (lit< tt) bound_16

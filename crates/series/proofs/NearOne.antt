@@ -10,13 +10,13 @@ use Rattle.algebra.specs.Size.{Within}
 use Rattle.algebra.proofs.Integer.{ℤR}
 use Rattle.algebra.proofs.Ring.{pw}
 use Rattle.algebra.proofs.Reify.{ring!, reify, reifyᵍ}
-use Rattle.algebra.proofs.Order.{nonneg_pos, nonneg-mul, pos-mono}
+use Rattle.algebra.proofs.Order.{nonneg_pos, nonneg_mul, pos_mono}
 use Rattle.algebra.proofs.Linear.{lin, ◌&◌, none}
 use Rattle.algebra.proofs.Gauss.{𝔾R}
-use Rattle.algebra.proofs.Within.{within-add, within-weaken, pw-nonneg, within-ι, within-scale, within-cancel}
+use Rattle.algebra.proofs.Within.{within_add, within_weaken, pw_nonneg, within_ι, within_scale, within_cancel}
 use Rattle.series.specs.Series.{D, Dᵍ, Dᶻ}
-use Rattle.series.proofs.Series.{Sᶜ, tail, tail-one}
-use Rattle.series.proofs.Majorant.{within-tail}
+use Rattle.series.proofs.Series.{Sᶜ, tail, tail_one}
+use Rattle.series.proofs.Majorant.{within_tail}
 use Rattle.series.proofs.Decay.{decay}
 
 -- 2U − ρ
@@ -32,17 +32,17 @@ module _ (U : ℕ) {z : 𝔾} {ρ : ℤ} (h : Within z ρ) (near : ρ ⩽ pos 2 
   real = lin (ρ ∷ pos U ∷ tail ℤR U 1 T ρ ∷ Dᶻ U T ∷ Dᶻ U 1 ∷ pw ℤR ρ T ∷ [])
       (decay U 1 ρ (room U ρ) (pos 2 *ℤ pos U) h.sign (lin (ρ ∷ pos U ∷ []) (h.sign & none) (search reify depth 20) tt)
       (lin (ρ ∷ pos U ∷ []) none (search reify depth 20) tt) T T>0
-      & nonneg-mul (nonneg-mul (nonneg_pos (D U 1)) (nonneg_pos U)) (pw-nonneg h.sign T) & none) (search reify depth 20) tt
+      & nonneg_mul (nonneg_mul (nonneg_pos (D U 1)) (nonneg_pos U)) (pw_nonneg h.sign T) & none) (search reify depth 20) tt
 
-  pub near-one : 0 < U → Within (ιᵍ (room U ρ) *ᵍ (Sᶜ U T z -ᵍ Dᵍ U T)) (pos 2 *ℤ ρ *ℤ Dᶻ U T)
-  near-one U>0 = within-cancel (pos U) (pos-mono U>0) (subst (λ w. Within w (pos U *ℤ (pos 2 *ℤ ρ *ℤ Dᶻ U T))) out
-      (within-weaken (within-scale (room U ρ) room≥0 (within-tail U h 1 T T>0)) real))
+  pub near_one : 0 < U → Within (ιᵍ (room U ρ) *ᵍ (Sᶜ U T z -ᵍ Dᵍ U T)) (pos 2 *ℤ ρ *ℤ Dᶻ U T)
+  near_one U>0 = within_cancel (pos U) (pos_mono U>0) (subst (λ w. Within w (pos U *ℤ (pos 2 *ℤ ρ *ℤ Dᶻ U T))) out
+      (within_weaken (within_scale (room U ρ) room≥0 (within_tail U h 1 T T>0)) real))
     where
       out : ιᵍ (room U ρ) *ᵍ tail 𝔾R U 1 T z ≡ ιᵍ (pos U) *ᵍ (ιᵍ (room U ρ) *ᵍ (Sᶜ U T z -ᵍ Dᵍ U T))
-      out = ap (λ w. ιᵍ (room U ρ) *ᵍ w) (tail-one 𝔾R U T z)
+      out = ap (λ w. ιᵍ (room U ρ) *ᵍ w) (tail_one 𝔾R U T z)
           ∙ ring! 𝔾R (ιᵍ (room U ρ) ∷ ιᵍ (pos U) ∷ Sᶜ U T z ∷ Dᵍ U T ∷ []) (search reifyᵍ depth 20) tt
 
   pub size : 0 < U → Within (ιᵍ (room U ρ) *ᵍ Sᶜ U T z) ((pos 2 *ℤ pos U +ℤ ρ) *ℤ Dᶻ U T)
   size U>0 = subst₂ Within (ring! 𝔾R (ιᵍ (room U ρ) ∷ Sᶜ U T z ∷ Dᵍ U T ∷ []) (search reifyᵍ depth 20) tt)
       (ring! ℤR (ρ ∷ pos U ∷ Dᶻ U T ∷ []) (search reify depth 20) tt)
-      (within-add (near-one U>0) (within-scale (room U ρ) room≥0 (within-ι (Dᶻ U T) (nonneg_pos (D U T)))))
+      (within_add (near_one U>0) (within_scale (room U ρ) room≥0 (within_ι (Dᶻ U T) (nonneg_pos (D U T)))))

@@ -6,9 +6,9 @@ use native.Mathlib.Nat.{mul-pos, pow-zero, pow-suc}
 use native.Mathlib.Omega.{arith}
 use lib.IntN.{ℤ, pos}
 use Rattle.algebra.specs.Gauss.{𝔾, ιᵍ, ◌+ᵍ◌, ◌*ᵍ◌}
-use Rattle.algebra.proofs.Ring.{Ring, pw, mul-zero}
+use Rattle.algebra.proofs.Ring.{Ring, pw, mul_zero}
 use Rattle.algebra.proofs.Integer.{ℤR}
-use Rattle.algebra.proofs.Gauss.{𝔾R, power-is}
+use Rattle.algebra.proofs.Gauss.{𝔾R, power_is}
 use Rattle.algebra.proofs.Reify.{ring!, reifyᴿ}
 use Rattle.series.specs.Series.{D, Sᵍ, Dᵍ}
 
@@ -33,7 +33,7 @@ D-pos U h (suc T) = mul-pos (mul-pos h (omega arith)) (D-pos U h T)
 
 -- ---- the sum: one more term z^T/(U^T T!) over one more factor of the divisor; and its terms from the n-th up to the T-th
 module _ (R : Ring) (U : ℕ) where
-  open R use {A, add, mul, neg, ι, ι-mul, add-zero, add-neg}
+  open R use {A, add, mul, neg, ι, ι_mul, add_zero, add_neg}
 
   abbrev pub Dᴿ : ℕ → A
   Dᴿ T = ι (pos (D U T))
@@ -48,21 +48,21 @@ module _ (R : Ring) (U : ℕ) where
 
   pub Dᴿ-suc : (T : ℕ) → Dᴿ (suc T) ≡ mul (ι (pos (U * suc T))) (Dᴿ T)
   unfolding D
-  Dᴿ-suc T = ι-mul (pos (U * suc T)) (pos (D U T))
+  Dᴿ-suc T = ι_mul (pos (U * suc T)) (pos (D U T))
 
-  pub tail-self : (n : ℕ) (z : A) → tail n n z ≡ ι (pos 0)
+  pub tail_self : (n : ℕ) (z : A) → tail n n z ≡ ι (pos 0)
   unfolding tail
-  tail-self n z = add-neg (mul (Dᴿ n) (S n z))
+  tail_self n z = add_neg (mul (Dᴿ n) (S n z))
 
-  pub tail-suc : (n T : ℕ) (z : A) → tail n (suc T) z ≡ mul (ι (pos (U * suc T))) (add (tail n T z) (mul (Dᴿ n) (pw R z T)))
+  pub tail_suc : (n T : ℕ) (z : A) → tail n (suc T) z ≡ mul (ι (pos (U * suc T))) (add (tail n T z) (mul (Dᴿ n) (pw R z T)))
   unfolding tail S
-  tail-suc n T z = ap (λ t. add (mul (Dᴿ n) (S (suc T) z)) (neg (mul t (S n z)))) (Dᴿ-suc T)
+  tail_suc n T z = ap (λ t. add (mul (Dᴿ n) (S (suc T) z)) (neg (mul t (S n z)))) (Dᴿ-suc T)
       ∙ ring! R (Dᴿ n ∷ ι (pos (U * suc T)) ∷ Dᴿ T ∷ S T z ∷ S n z ∷ pw R z T ∷ z ∷ []) (search reifyᴿ depth 20) tt
 
   -- the sum less one
-  pub tail-one : (T : ℕ) (z : A) → tail 1 T z ≡ mul (ι (pos U)) (add (S T z) (neg (Dᴿ T)))
+  pub tail_one : (T : ℕ) (z : A) → tail 1 T z ≡ mul (ι (pos U)) (add (S T z) (neg (Dᴿ T)))
   unfolding tail S D
-  tail-one T z = ap₂ (λ u v. add (mul (ι (pos u)) (S T z)) (neg (mul (Dᴿ T) (mul (ι (pos v)) (add (ι (pos 0)) (ι (pos 1))))))) (once₂ U)
+  tail_one T z = ap₂ (λ u v. add (mul (ι (pos u)) (S T z)) (neg (mul (Dᴿ T) (mul (ι (pos v)) (add (ι (pos 0)) (ι (pos 1))))))) (once₂ U)
       (once U)
       ∙ ring! R (ι (pos U) ∷ Dᴿ T ∷ S T z ∷ []) (search reifyᴿ depth 20) tt
     where
@@ -76,8 +76,8 @@ module _ (R : Ring) (U : ℕ) where
   pub S-at-zero : (T : ℕ) → S (suc T) (ι (pos 0)) ≡ Dᴿ (suc T)
   unfolding S D
   S-at-zero zero = ring! R (ι (pos (U * 1)) ∷ []) (search reifyᴿ depth 20) tt ∙ sym (Dᴿ-suc 0)
-  S-at-zero (suc T) = ap₂ (λ s t. mul (ι (pos (U * suc (suc T)))) (add s t)) (S-at-zero T) (mul-zero R (pw R (ι (pos 0)) T))
-      ∙ ap (λ t. mul (ι (pos (U * suc (suc T)))) t) (add-zero (Dᴿ (suc T))) ∙ sym (Dᴿ-suc (suc T))
+  S-at-zero (suc T) = ap₂ (λ s t. mul (ι (pos (U * suc (suc T)))) (add s t)) (S-at-zero T) (mul_zero R (pw R (ι (pos 0)) T))
+      ∙ ap (λ t. mul (ι (pos (U * suc (suc T)))) t) (add_zero (Dᴿ (suc T))) ∙ sym (Dᴿ-suc (suc T))
 
 -- ---- complex and real
 abbrev pub Sᶜ : ℕ → ℕ → 𝔾 → 𝔾
@@ -86,10 +86,10 @@ Sᶜ U T z = S 𝔾R U T z
 abbrev pub Sᶻ : ℕ → ℕ → ℤ → ℤ
 Sᶻ U T ρ = S ℤR U T ρ
 
-pub complex-is : (U T : ℕ) (z : 𝔾) → Sᶜ U T z ≡ Sᵍ U T z
+pub complex_is : (U T : ℕ) (z : 𝔾) → Sᶜ U T z ≡ Sᵍ U T z
 unfolding S Sᵍ
-complex-is U zero z = refl
-complex-is U (suc T) z = ap₂ (λ s p. ιᵍ (pos (U * suc T)) *ᵍ (s +ᵍ p)) (complex-is U T z) (power-is z T)
+complex_is U zero z = refl
+complex_is U (suc T) z = ap₂ (λ s p. ιᵍ (pos (U * suc T)) *ᵍ (s +ᵍ p)) (complex_is U T z) (power_is z T)
 
-pub exp-zero : (U T : ℕ) → Sᵍ U (suc T) (ιᵍ (pos 0)) ≡ Dᵍ U (suc T)
-exp-zero U T = sym (complex-is U (suc T) (ιᵍ (pos 0))) ∙ S-at-zero 𝔾R U T
+pub exp_zero : (U T : ℕ) → Sᵍ U (suc T) (ιᵍ (pos 0)) ≡ Dᵍ U (suc T)
+exp_zero U T = sym (complex_is U (suc T) (ιᵍ (pos 0))) ∙ S-at-zero 𝔾R U T

@@ -8,32 +8,32 @@ use lib.IntN.{ℤ, pos, negsuc}
 use lib.ListN.{get_or}
 use Rattle.point.specs.Digit.{Trit}
 use Rattle.table_numbers.specs.declared.Entry.{Entry}
-use Rattle.table_numbers.specs.Rows.{stepRow, part, RowPromise}
+use Rattle.table_numbers.specs.Rows.{step_row, part, RowPromise}
 use Rattle.table_numbers.proofs.DigitPlaces.{place}
-use Rattle.table_numbers.proofs.Promised.{row_kept, part-place}
+use Rattle.table_numbers.proofs.Promised.{row_kept, part_place}
 
 unfoldable pub matrices : ℕ → ℕ → List (List (List Entry))
 matrices n zero = []
-matrices n (suc m) = (stepRow n (negsuc 0) ∷ stepRow n (pos 0) ∷ stepRow n (pos 1) ∷ []) ∷ matrices (suc n) m
+matrices n (suc m) = (step_row n (negsuc 0) ∷ step_row n (pos 0) ∷ step_row n (pos 1) ∷ []) ∷ matrices (suc n) m
 
-matrix-at : (n a : ℕ) → a < 3 → get_or (stepRow n (negsuc 0) ∷ stepRow n (pos 0) ∷ stepRow n (pos 1) ∷ []) a [] ≡ stepRow n (part a)
-matrix-at n zero h = refl
-matrix-at n (suc zero) h = refl
-matrix-at n (suc (suc zero)) h = refl
-matrix-at n (suc (suc (suc a))) h = absurd (over a h)
+matrix_at : (n a : ℕ) → a < 3 → get_or (step_row n (negsuc 0) ∷ step_row n (pos 0) ∷ step_row n (pos 1) ∷ []) a [] ≡ step_row n (part a)
+matrix_at n zero h = refl
+matrix_at n (suc zero) h = refl
+matrix_at n (suc (suc zero)) h = refl
+matrix_at n (suc (suc (suc a))) h = absurd (over a h)
   where
     over : (a : ℕ) → suc (suc (suc a)) < 3 → ⊥
     over a h = omega arith
 
-pub matrices-at : (n m i a : ℕ) → i < m → a < 3 → get_or (get_or (matrices n m) i []) a [] ≡ stepRow (i + n) (part a)
+pub matrices_at : (n m i a : ℕ) → i < m → a < 3 → get_or (get_or (matrices n m) i []) a [] ≡ step_row (i + n) (part a)
 unfolding matrices
-matrices-at n zero i a h g = absurd (not-suc-le-zero h)
-matrices-at n (suc m) zero a h g = matrix-at n a g ∙ ap (λ k. stepRow k (part a)) (omega arith)
-matrices-at n (suc m) (suc i) a h g = matrices-at (suc n) m i a (omega arith) g ∙ ap (λ k. stepRow k (part a)) (omega arith)
+matrices_at n zero i a h g = absurd (not-suc-le-zero h)
+matrices_at n (suc m) zero a h g = matrix_at n a g ∙ ap (λ k. step_row k (part a)) (omega arith)
+matrices_at n (suc m) (suc i) a h g = matrices_at (suc n) m i a (omega arith) g ∙ ap (λ k. step_row k (part a)) (omega arith)
 
 -- the row that a part from f on has for n
-pub part-kept : (n f : ℕ) {dx : ℤ} {row : List Entry} → f ≤ n → Trit dx → row ≡ stepRow (n - f + f) (part (place dx)) →
-    (row ≡ stepRow n dx) × RowPromise n dx row
-part-kept n f {dx} h t e =
+pub part_kept : (n f : ℕ) {dx : ℤ} {row : List Entry} → f ≤ n → Trit dx → row ≡ step_row (n - f + f) (part (place dx)) →
+    (row ≡ step_row n dx) × RowPromise n dx row
+part_kept n f {dx} h t e =
     let q : n - f + f ≡ n = omega arith in
-    row_kept n dx (e ∙ ap₂ stepRow q (part-place t))
+    row_kept n dx (e ∙ ap₂ step_row q (part_place t))

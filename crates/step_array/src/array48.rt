@@ -1,6 +1,6 @@
 // The array over n, each element three rows by dx of three entries by dy, at the width 48: 10 elements to a constant. Made by tests/tables/generate.py.
 ghost use Rattle.std.specs.Prelude.{◌≡◌, ◌<◌, ◌+◌};
-ghost use Rattle.table_numbers.specs.Rows.{stepRow, part};
+ghost use Rattle.table_numbers.specs.Rows.{step_row, part};
 
 use step_table::rows48 as t;
 use table_numbers::Entry;
@@ -59,28 +59,28 @@ const PART_4: [[[Entry; 3]; 3]; 10] = [
 
 pub fn part_1(i: usize, place: usize) -> [Entry; 3]
     requires { (i < 10) × (place < 3) }
-    ensures { result ≡ stepRow (i + 1) (part place) }
+    ensures { result ≡ step_row (i + 1) (part place) }
 {
     PART_1[i][place]
 }
 
 pub fn part_2(i: usize, place: usize) -> [Entry; 3]
     requires { (i < 10) × (place < 3) }
-    ensures { result ≡ stepRow (i + 11) (part place) }
+    ensures { result ≡ step_row (i + 11) (part place) }
 {
     PART_2[i][place]
 }
 
 pub fn part_3(i: usize, place: usize) -> [Entry; 3]
     requires { (i < 10) × (place < 3) }
-    ensures { result ≡ stepRow (i + 21) (part place) }
+    ensures { result ≡ step_row (i + 21) (part place) }
 {
     PART_3[i][place]
 }
 
 pub fn part_4(i: usize, place: usize) -> [Entry; 3]
     requires { (i < 10) × (place < 3) }
-    ensures { result ≡ stepRow (i + 31) (part place) }
+    ensures { result ≡ step_row (i + 31) (part place) }
 {
     PART_4[i][place]
 }

@@ -1,6 +1,6 @@
 // The step table as the array that 01 names (What form to use where), over the same named rows as the look-up.
 ghost use Rattle.std.specs.Prelude.{◌≡◌};
-ghost use Rattle.table_numbers.specs.Rows.{stepRow, RowPromise};
+ghost use Rattle.table_numbers.specs.Rows.{step_row, RowPromise};
 
 use step_table::rows48;
 use table_numbers::Entry;
@@ -9,7 +9,7 @@ mod array48;
 
 // The row of step n for dx out of the array, n over rows by dx of entries by dy; noughts for what is no step or no digit.
 pub fn array_row(n: usize, dx: i64) -> [Entry; 3]
-    ensures value { result ≡ stepRow n dx }
+    ensures value { result ≡ step_row n dx }
     ensures promise { RowPromise n dx result }
 {
     if n < 1 {

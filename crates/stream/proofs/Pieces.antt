@@ -10,122 +10,122 @@ use borrow.Author.Tests.{ltb-true, ltb-false}
 use Rattle.algebra.proofs.Test.{either}
 use Rattle.text.proofs.Longest.{too_long}
 use Rattle.stream.specs.declared.State.{State}
-use Rattle.stream.specs.Machine.{lastLine, lines_from, lines, Machine, Place, kept-bytes, newLine, cut, answers, byteAnswer, byteAfter, answersFrom, placeAfter, answersAtEnd}
-use Rattle.stream.specs.Sheet.{initial, answerLine, machine, heading, sheet}
+use Rattle.stream.specs.Machine.{last_line, lines_from, lines, Machine, Place, kept_bytes, new_line, cut, answers, byte_answer, byte_after, answers_from, place_after, answers_at_end}
+use Rattle.stream.specs.Sheet.{initial, answer_line, machine, heading, sheet}
 
 -- ---- a line cut, and cut again behind some bytes more
-cut-append : (n : ℕ) (l xs : List ℕ) → take n (take n l ++ xs) ≡ take n (l ++ xs)
-cut-append zero l xs = refl
-cut-append (suc n) [] xs = refl
-cut-append (suc n) (c ∷ l) xs = ap (λ (t : List ℕ). c ∷ t) (cut-append n l xs)
+cut_append : (n : ℕ) (l xs : List ℕ) → take n (take n l ++ xs) ≡ take n (l ++ xs)
+cut_append zero l xs = refl
+cut_append (suc n) [] xs = refl
+cut_append (suc n) (c ∷ l) xs = ap (λ (t : List ℕ). c ∷ t) (cut_append n l xs)
 
 pub cut_twice : {σ : Type 0} (p : Place σ) → cut (cut p) ≡ cut p
-cut_twice p = rw (take-take kept-bytes kept-bytes p.begun (omega arith))
+cut_twice p = rw (take-take kept_bytes kept_bytes p.begun (omega arith))
 
 module _ {σ : Type 0} (m : Machine σ) where
   -- ---- a piece behind another
-  pub after-append : (xs ys : List ℕ) (p : Place σ) → placeAfter m p (xs ++ ys) ≡ placeAfter m (placeAfter m p xs) ys
-  unfolding placeAfter
-  after-append [] ys p = refl
-  after-append (c ∷ xs) ys p = after-append xs ys (byteAfter m p c)
+  pub after_append : (xs ys : List ℕ) (p : Place σ) → place_after m p (xs ++ ys) ≡ place_after m (place_after m p xs) ys
+  unfolding place_after
+  after_append [] ys p = refl
+  after_append (c ∷ xs) ys p = after_append xs ys (byte_after m p c)
 
-  pub answers-append : (xs ys : List ℕ) (p : Place σ) →
-      answersFrom m p (xs ++ ys) ≡ answersFrom m p xs ++ answersFrom m (placeAfter m p xs) ys
-  unfolding answersFrom placeAfter
-  answers-append [] ys p = refl
-  answers-append (c ∷ xs) ys p =
-      let q = byteAfter m p c in
-      ap (λ (l : List ℕ). byteAnswer m p c ++ l) (answers-append xs ys q)
-      ∙ sym (append_assoc (byteAnswer m p c) (answersFrom m q xs) (answersFrom m (placeAfter m q xs) ys))
+  pub answers_append : (xs ys : List ℕ) (p : Place σ) →
+      answers_from m p (xs ++ ys) ≡ answers_from m p xs ++ answers_from m (place_after m p xs) ys
+  unfolding answers_from place_after
+  answers_append [] ys p = refl
+  answers_append (c ∷ xs) ys p =
+      let q = byte_after m p c in
+      ap (λ (l : List ℕ). byte_answer m p c ++ l) (answers_append xs ys q)
+      ∙ sym (append_assoc (byte_answer m p c) (answers_from m q xs) (answers_from m (place_after m q xs) ys))
 
   -- ---- byte by byte is line by line
   one_byte : (c : ℕ) (cs : List ℕ) (p : Place σ) →
-      byteAnswer m p c ++ answers m (byteAfter m p c).state (lines_from (byteAfter m p c).begun cs)
+      byte_answer m p c ++ answers m (byte_after m p c).state (lines_from (byte_after m p c).begun cs)
       ≡ answers m p.state (lines_from p.begun (c ∷ cs))
   unfolding answers lines_from
   one_byte c cs p = either (eqb c 10) (λ e. rw e) (λ e. rw e)
 
   by_lines : (s : List ℕ) (p : Place σ) →
-      answersFrom m p s ++ answersAtEnd m (placeAfter m p s) ≡ answers m p.state (lines_from p.begun s)
-  unfolding answersFrom placeAfter answersAtEnd lines_from
+      answers_from m p s ++ answers_at_end m (place_after m p s) ≡ answers m p.state (lines_from p.begun s)
+  unfolding answers_from place_after answers_at_end lines_from
   by_lines [] p = refl
   by_lines (c ∷ cs) p =
-      let q = byteAfter m p c in
-      append_assoc (byteAnswer m p c) (answersFrom m q cs) (answersAtEnd m (placeAfter m q cs))
-      ∙ (ap (λ (l : List ℕ). byteAnswer m p c ++ l) (by_lines cs q) ∙ one_byte c cs p)
+      let q = byte_after m p c in
+      append_assoc (byte_answer m p c) (answers_from m q cs) (answers_at_end m (place_after m q cs))
+      ∙ (ap (λ (l : List ℕ). byte_answer m p c ++ l) (by_lines cs q) ∙ one_byte c cs p)
 
   -- ---- pieces one after the other; between two of them a line that has begun is cut
-  unfoldable pub answersInPieces : Place σ → List (List ℕ) → List ℕ
-  answersInPieces p [] = answersAtEnd m p
-  answersInPieces p (x ∷ xs) = answersFrom m p x ++ answersInPieces (cut (placeAfter m p x)) xs
+  unfoldable pub answers_in_pieces : Place σ → List (List ℕ) → List ℕ
+  answers_in_pieces p [] = answers_at_end m p
+  answers_in_pieces p (x ∷ xs) = answers_from m p x ++ answers_in_pieces (cut (place_after m p x)) xs
 
-  module _ (told : (s : σ) (l : List ℕ) → m.next s (take kept-bytes l) ≡ m.next s l) where
+  module _ (told : (s : σ) (l : List ℕ) → m.next s (take kept_bytes l) ≡ m.next s l) where
     -- ---- nothing sees the cut: not a byte
-    byte-answer : (p : Place σ) (c : ℕ) → byteAnswer m (cut p) c ≡ byteAnswer m p c
-    byte-answer p c = rw (told p.state p.begun)
+    byte_answer_lem : (p : Place σ) (c : ℕ) → byte_answer m (cut p) c ≡ byte_answer m p c
+    byte_answer_lem p c = rw (told p.state p.begun)
 
-    byte-after : (p : Place σ) (c : ℕ) → cut (byteAfter m (cut p) c) ≡ cut (byteAfter m p c)
-    byte-after p c = either (eqb c 10) (λ e. rw (e, told p.state p.begun)) (λ e. rw (e, cut-append kept-bytes p.begun (c ∷ [])))
+    byte_after_lem : (p : Place σ) (c : ℕ) → cut (byte_after m (cut p) c) ≡ cut (byte_after m p c)
+    byte_after_lem p c = either (eqb c 10) (λ e. rw (e, told p.state p.begun)) (λ e. rw (e, cut_append kept_bytes p.begun (c ∷ [])))
 
     alike : {A : Type 0} (f : Place σ → A) → ((p : Place σ) → f (cut p) ≡ f p) → (p q : Place σ) → cut p ≡ cut q → f p ≡ f q
     alike f h p q e = sym (h p) ∙ (ap f e ∙ h q)
 
     -- not a piece
-    cut-answers : (xs : List ℕ) (p : Place σ) → answersFrom m (cut p) xs ≡ answersFrom m p xs
-    unfolding answersFrom
-    cut-answers [] p = refl
-    cut-answers (c ∷ cs) p =
-        let rest = alike (λ q. answersFrom m q cs) (cut-answers cs) (byteAfter m (cut p) c) (byteAfter m p c) (byte-after p c) in
-        λ i. byte-answer p c i ++ rest i
+    cut_answers : (xs : List ℕ) (p : Place σ) → answers_from m (cut p) xs ≡ answers_from m p xs
+    unfolding answers_from
+    cut_answers [] p = refl
+    cut_answers (c ∷ cs) p =
+        let rest = alike (λ q. answers_from m q cs) (cut_answers cs) (byte_after m (cut p) c) (byte_after m p c) (byte_after_lem p c) in
+        λ i. byte_answer_lem p c i ++ rest i
 
-    cut-after : (xs : List ℕ) (p : Place σ) → cut (placeAfter m (cut p) xs) ≡ cut (placeAfter m p xs)
-    unfolding placeAfter
-    cut-after [] p = cut_twice p
-    cut-after (c ∷ cs) p = alike (λ q. cut (placeAfter m q cs)) (cut-after cs) (byteAfter m (cut p) c) (byteAfter m p c) (byte-after p c)
+    cut_after : (xs : List ℕ) (p : Place σ) → cut (place_after m (cut p) xs) ≡ cut (place_after m p xs)
+    unfolding place_after
+    cut_after [] p = cut_twice p
+    cut_after (c ∷ cs) p = alike (λ q. cut (place_after m q cs)) (cut_after cs) (byte_after m (cut p) c) (byte_after m p c) (byte_after_lem p c)
 
     -- not the sheet's end
-    cut-end : (p : Place σ) → answersAtEnd m (cut p) ≡ answersAtEnd m p
-    unfolding answersAtEnd answers lastLine
-    cut-end p = go p.begun
+    cut_end : (p : Place σ) → answers_at_end m (cut p) ≡ answers_at_end m p
+    unfolding answers_at_end answers last_line
+    cut_end p = go p.begun
       where
-        go : (l : List ℕ) → answers m p.state (lastLine (take kept-bytes l)) ≡ answers m p.state (lastLine l)
+        go : (l : List ℕ) → answers m p.state (last_line (take kept_bytes l)) ≡ answers m p.state (last_line l)
         go [] = refl
         go (c ∷ l) = rw (told p.state (c ∷ l))
 
     whole : (xs : List (List ℕ)) (p : Place σ) →
-        answersInPieces (cut p) xs ≡ answersFrom m p (flatten xs) ++ answersAtEnd m (placeAfter m p (flatten xs))
-    unfolding answersInPieces answersFrom placeAfter flatten
-    whole [] p = cut-end p
+        answers_in_pieces (cut p) xs ≡ answers_from m p (flatten xs) ++ answers_at_end m (place_after m p (flatten xs))
+    unfolding answers_in_pieces answers_from place_after flatten
+    whole [] p = cut_end p
     whole (x ∷ xs) p =
-        let q = placeAfter m p x in
+        let q = place_after m p x in
         let rest = flatten xs in
-        rw (cut-answers x p, cut-after x p, whole xs q, after-append x rest p, answers-append x rest p, append_assoc)
+        rw (cut_answers x p, cut_after x p, whole xs q, after_append x rest p, answers_append x rest p, append_assoc)
 
     -- ---- THE LAW
-    pub in_pieces : (s : σ) (xs : List (List ℕ)) → answersInPieces (newLine s) xs ≡ answers m s (lines (flatten xs))
-    in_pieces s xs = whole xs (newLine s) ∙ by_lines (flatten xs) (newLine s)
+    pub in_pieces : (s : σ) (xs : List (List ℕ)) → answers_in_pieces (new_line s) xs ≡ answers m s (lines (flatten xs))
+    in_pieces s xs = whole xs (new_line s) ∙ by_lines (flatten xs) (new_line s)
 
     -- a piece read in two goes: the second goes on from where the first led
     pub goes_on : (p q : Place σ) (xs ys : List ℕ) →
-        cut q ≡ cut (placeAfter m p xs) → cut (placeAfter m q ys) ≡ cut (placeAfter m p (xs ++ ys))
+        cut q ≡ cut (place_after m p xs) → cut (place_after m q ys) ≡ cut (place_after m p (xs ++ ys))
     goes_on p q xs ys e =
-        alike (λ r. cut (placeAfter m r ys)) (cut-after ys) q (placeAfter m p xs) e ∙ ap (λ r. cut r) (sym (after-append xs ys p))
+        alike (λ r. cut (place_after m r ys)) (cut_after ys) q (place_after m p xs) e ∙ ap (λ r. cut r) (sym (after_append xs ys p))
 
 -- ---- THE MACHINE: no line over 116 bytes has the form
-pub told : (s : State) (l : List ℕ) → answerLine s (take kept-bytes l) ≡ answerLine s l
-unfolding answerLine
-told s l = either (ltb (length l) kept-bytes) (λ e. short (ltb-true (length l) kept-bytes e))
-    (λ e. long (ltb-false (length l) kept-bytes e))
+pub told : (s : State) (l : List ℕ) → answer_line s (take kept_bytes l) ≡ answer_line s l
+unfolding answer_line
+told s l = either (ltb (length l) kept_bytes) (λ e. short (ltb-true (length l) kept_bytes e))
+    (λ e. long (ltb-false (length l) kept_bytes e))
   where
-    short : length l < kept-bytes → answerLine s (take kept-bytes l) ≡ answerLine s l
-    short h = rw (take_all kept-bytes l (omega arith))
+    short : length l < kept_bytes → answer_line s (take kept_bytes l) ≡ answer_line s l
+    short h = rw (take_all kept_bytes l (omega arith))
 
-    long : kept-bytes ≤ length l → answerLine s (take kept-bytes l) ≡ answerLine s l
+    long : kept_bytes ≤ length l → answer_line s (take kept_bytes l) ≡ answer_line s l
     long h =
-        let n : 116 < length (take kept-bytes l) = rw (length-take-le kept-bytes l h) (omega arith) in
-        rw (too_long (take kept-bytes l) n, too_long l (omega arith))
+        let n : 116 < length (take kept_bytes l) = rw (length-take-le kept_bytes l h) (omega arith) in
+        rw (too_long (take kept_bytes l) n, too_long l (omega arith))
 
 -- so, fed in any pieces, the bytes written are those of the whole sheet's answer
-pub sheet-in-pieces : (xs : List (List ℕ)) → heading ++ answersInPieces machine (newLine initial) xs ≡ sheet (flatten xs)
+pub sheet_in_pieces : (xs : List (List ℕ)) → heading ++ answers_in_pieces machine (new_line initial) xs ≡ sheet (flatten xs)
 unfolding sheet
-sheet-in-pieces xs = ap (λ (l : List ℕ). heading ++ l) (in_pieces machine told initial xs)
+sheet_in_pieces xs = ap (λ (l : List ℕ). heading ++ l) (in_pieces machine told initial xs)

@@ -1,16 +1,16 @@
 -- A machine that answers a sheet line by line, and the same sheet read in pieces (01, A sheet line).
 use Rattle.std.specs.Prelude.{cond, ◌&&◌, List, [], ◌∷◌, ◌++◌, ℕ, suc, ◌-◌, ltb, eqb, length, take}
-use Rattle.text.specs.Line.{longest-line}
-use Rattle.text.specs.Answer.{answer-room}
+use Rattle.text.specs.Line.{longest_line}
+use Rattle.text.specs.Answer.{answer_room}
 
 -- ---- THE LINES of a sheet: "Lines end with byte 10; a last line without it counts if it isn't empty"
-unfoldable pub lastLine : List ℕ → List (List ℕ)
-lastLine [] = []
-lastLine (c ∷ cs) = (c ∷ cs) ∷ []
+unfoldable pub last_line : List ℕ → List (List ℕ)
+last_line [] = []
+last_line (c ∷ cs) = (c ∷ cs) ∷ []
 
 -- the first one behind what was already read of it
 unfoldable pub lines_from : List ℕ → List ℕ → List (List ℕ)
-lines_from begun [] = lastLine begun
+lines_from begun [] = last_line begun
 lines_from begun (c ∷ cs) = cond (eqb c 10) (begun ∷ lines_from [] cs) (lines_from (begun ++ c ∷ []) cs)
 
 abbrev pub lines : List ℕ → List (List ℕ)
@@ -37,49 +37,49 @@ pub record Place (σ : Type 0) : Type 0 where
   pub begun : List ℕ
 
 -- "an input line too long to have the form above is malformed up to its newline": so many bytes of a line that has begun are kept
-abbrev pub kept-bytes : ℕ
-kept-bytes = suc longest-line
+abbrev pub kept_bytes : ℕ
+kept_bytes = suc longest_line
 
 module _ {σ : Type 0} where
   -- where a line begins
-  abbrev pub newLine : σ → Place σ
-  newLine s = record { state = s; begun = [] }
+  abbrev pub new_line : σ → Place σ
+  new_line s = record { state = s; begun = [] }
 
   -- where it goes on
-  abbrev pub goOn : Place σ → List ℕ → Place σ
-  goOn p xs = record { state = p.state; begun = p.begun ++ xs }
+  abbrev pub go_on : Place σ → List ℕ → Place σ
+  go_on p xs = record { state = p.state; begun = p.begun ++ xs }
 
   -- with what is kept of it
   abbrev pub cut : Place σ → Place σ
-  cut p = record { state = p.state; begun = take kept-bytes p.begun }
+  cut p = record { state = p.state; begun = take kept_bytes p.begun }
 
 module _ {σ : Type 0} (m : Machine σ) where
   -- ---- a byte read at a place: byte 10 ends the line there, any other goes on with it
-  abbrev pub lineEnd : Place σ → Outcome σ
-  lineEnd p = m.next p.state p.begun
+  abbrev pub line_end : Place σ → Outcome σ
+  line_end p = m.next p.state p.begun
 
-  abbrev pub byteAnswer : Place σ → ℕ → List ℕ
-  byteAnswer p c = cond (eqb c 10) (lineEnd p).bytes []
+  abbrev pub byte_answer : Place σ → ℕ → List ℕ
+  byte_answer p c = cond (eqb c 10) (line_end p).bytes []
 
-  abbrev pub byteAfter : Place σ → ℕ → Place σ
-  byteAfter p c = cond (eqb c 10) (newLine (lineEnd p).state) (goOn p (c ∷ []))
+  abbrev pub byte_after : Place σ → ℕ → Place σ
+  byte_after p c = cond (eqb c 10) (new_line (line_end p).state) (go_on p (c ∷ []))
 
   -- ---- bytes read from a place on: what they are answered
-  unfoldable pub answersFrom : Place σ → List ℕ → List ℕ
-  answersFrom p [] = []
-  answersFrom p (c ∷ cs) = byteAnswer p c ++ answersFrom (byteAfter p c) cs
+  unfoldable pub answers_from : Place σ → List ℕ → List ℕ
+  answers_from p [] = []
+  answers_from p (c ∷ cs) = byte_answer p c ++ answers_from (byte_after p c) cs
 
   -- the place that they lead to
-  unfoldable pub placeAfter : Place σ → List ℕ → Place σ
-  placeAfter p [] = p
-  placeAfter p (c ∷ cs) = placeAfter (byteAfter p c) cs
+  unfoldable pub place_after : Place σ → List ℕ → Place σ
+  place_after p [] = p
+  place_after p (c ∷ cs) = place_after (byte_after p c) cs
 
   -- how many are read with room for so many bytes: up to the first byte 10 that finds too little room for a line's answer
-  unfoldable pub readWithin : ℕ → Place σ → List ℕ → ℕ
-  readWithin room p [] = 0
-  readWithin room p (c ∷ cs) =
-      cond (eqb c 10 && ltb room answer-room) 0 (suc (readWithin (room - length (byteAnswer p c)) (byteAfter p c) cs))
+  unfoldable pub read_within : ℕ → Place σ → List ℕ → ℕ
+  read_within room p [] = 0
+  read_within room p (c ∷ cs) =
+      cond (eqb c 10 && ltb room answer_room) 0 (suc (read_within (room - length (byte_answer p c)) (byte_after p c) cs))
 
   -- ---- and what is answered where the sheet ends
-  unfoldable pub answersAtEnd : Place σ → List ℕ
-  answersAtEnd p = answers m p.state (lastLine p.begun)
+  unfoldable pub answers_at_end : Place σ → List ℕ
+  answers_at_end p = answers m p.state (last_line p.begun)

@@ -3,8 +3,8 @@ use Rattle.std.specs.Prelude.{cond, List, [], ◌∷◌, ◌++◌, ℕ, ltb, ℤ
 use Rattle.std.specs.Int.Signed.{le_z}
 use Rattle.scan.specs.declared.Number.{Number}
 use Rattle.text.specs.declared.Line.{Line}
-use Rattle.text.specs.Line.{serialOf, readLine}
-use Rattle.text.specs.Answer.{Reply, refusedReply, replyOf, answer-room}
+use Rattle.text.specs.Line.{serial_of, read_line}
+use Rattle.text.specs.Answer.{Reply, refused_reply, reply_of, answer_room}
 use Rattle.stream.specs.declared.State.{State}
 use Rattle.stream.specs.declared.Place.{Place as Stored}
 use Rattle.stream.specs.Machine.{lines, Outcome, Machine, Place, answers}
@@ -15,27 +15,27 @@ abbrev pub initial : State
 initial = record { largest = pos 0 }
 
 -- a line that has the form counts, "whether or not that earlier line was refused"; a malformed one does not
-abbrev pub largestWith : Number → ℤ → ℤ
-largestWith num.Not largest = largest
-largestWith (num.Is serial) largest = cond (le_z serial largest) largest serial
+abbrev pub largest_with : Number → ℤ → ℤ
+largest_with num.Not largest = largest
+largest_with (num.Is serial) largest = cond (le_z serial largest) largest serial
 
 -- "7, number not above the largest before it, after 5 and ahead of the calculation's own"
-abbrev pub ifRisen : Number → ℤ → Reply → Reply
-ifRisen num.Not largest own = own
-ifRisen (num.Is serial) largest own = cond (le_z serial largest) (refusedReply serial (pos 7)) own
+abbrev pub if_risen : Number → ℤ → Reply → Reply
+if_risen num.Not largest own = own
+if_risen (num.Is serial) largest own = cond (le_z serial largest) (refused_reply serial (pos 7)) own
 
-unfoldable pub replyAfter : ℤ → Line → Reply
-replyAfter largest l = ifRisen (serialOf l) largest (replyOf l)
+unfoldable pub reply_after : ℤ → Line → Reply
+reply_after largest l = if_risen (serial_of l) largest (reply_of l)
 
-unfoldable pub answerLine : State → List ℕ → Outcome State
-answerLine s l =
+unfoldable pub answer_line : State → List ℕ → Outcome State
+answer_line s l =
     record {
-      bytes = (replyAfter s.largest (readLine l)).bytes;
-      state = record { largest = largestWith (serialOf (readLine l)) s.largest };
+      bytes = (reply_after s.largest (read_line l)).bytes;
+      state = record { largest = largest_with (serial_of (read_line l)) s.largest };
     }
 
 abbrev pub machine : Machine State
-machine = record { next = answerLine; end = λ s. [] }
+machine = record { next = answer_line; end = λ s. [] }
 
 -- "its first line is BKM, tab, 48"
 abbrev pub heading : List ℕ
@@ -50,5 +50,5 @@ abbrev pub place_of : Stored → Place State
 place_of p = record { state = p.state; begun = take p.len p.bytes }
 
 -- what is written into a lent buffer: nothing, where it is shorter than 128 bytes
-abbrev pub unlessShort : List ℕ → List ℕ → List ℕ
-unlessShort out xs = cond (ltb (length out) answer-room) [] xs
+abbrev pub unless_short : List ℕ → List ℕ → List ℕ
+unless_short out xs = cond (ltb (length out) answer_room) [] xs

@@ -1,9 +1,9 @@
 // A sheet fed in pieces of any size: a place in it goes in and comes back by value.
 ghost use Rattle.std.specs.Prelude.{◌≡◌, ◌++◌, ◌≤◌, length, take, drop};
 ghost use Rattle.std.proofs.Math.Seq.{slice};
-ghost use Rattle.text.specs.Answer.{answer-room};
-ghost use Rattle.stream.specs.Machine.{newLine, goOn, cut, lineEnd, answersFrom, placeAfter, readWithin, answersAtEnd};
-ghost use Rattle.stream.specs.Sheet.{initial, machine, heading, place_of, unlessShort};
+ghost use Rattle.text.specs.Answer.{answer_room};
+ghost use Rattle.stream.specs.Machine.{new_line, go_on, cut, line_end, answers_from, place_after, read_within, answers_at_end};
+ghost use Rattle.stream.specs.Sheet.{initial, machine, heading, place_of, unless_short};
 ghost use Rattle.stream.specs.Code.{Wrote};
 
 use scan::Number;
@@ -54,7 +54,7 @@ fn counted(largest: i64, a: LineAnswer) -> Answered
 // THE MACHINE: a line answered in a state. One that has the form must have a serial above the largest before it, and counts whatever it is
 // answered.
 fn next(state: State, line: &[u8], out: &mut [u8]) -> Answered
-    requires { answer-room ≤ length out.old }
+    requires { answer_room ≤ length out.old }
     ensures { Wrote (machine.next state line.now) out.old out.new result }
 {
     let mut largest = state.largest;
@@ -72,7 +72,7 @@ fn next(state: State, line: &[u8], out: &mut [u8]) -> Answered
 
 // The place where a line begins.
 fn new_line(state: State) -> Place
-    ensures { place_of result ≡ newLine state }
+    ensures { place_of result ≡ new_line state }
 {
     Place {
         state,
@@ -92,7 +92,7 @@ fn count(place: Place) -> usize
 // The line goes on with the bytes of s from `from` up to `to`.
 fn extended(place: Place, s: &[u8], from: usize, to: usize) -> Place
     requires { (from ≤ to) × (to ≤ length s.now) }
-    ensures { place_of result ≡ cut (goOn (place_of place) (slice from to s.now)) }
+    ensures { place_of result ≡ cut (go_on (place_of place) (slice from to s.now)) }
 {
     let state = place.state;
     let mut bytes = place.bytes;
@@ -108,8 +108,8 @@ fn extended(place: Place, s: &[u8], from: usize, to: usize) -> Place
 
 // The answer to the line that has begun, as if it ended here.
 fn answer_begun(place: Place, out: &mut [u8]) -> Answered
-    requires { answer-room ≤ length out.old }
-    ensures { Wrote (lineEnd machine (place_of place)) out.old out.new result }
+    requires { answer_room ≤ length out.old }
+    ensures { Wrote (line_end machine (place_of place)) out.old out.new result }
 {
     let len = count(place);
     let state = place.state;
@@ -119,8 +119,8 @@ fn answer_begun(place: Place, out: &mut [u8]) -> Answered
 
 // The answer to the line that goes on with the bytes of s from `from` up to `to` and ends there; one that lies whole in s is not copied.
 fn answer_ended(place: Place, s: &[u8], from: usize, to: usize, out: &mut [u8]) -> Answered
-    requires { (from ≤ to) × (to ≤ length s.now) × (answer-room ≤ length out.old) }
-    ensures { Wrote (lineEnd machine (goOn (place_of place) (slice from to s.now))) out.old out.new result }
+    requires { (from ≤ to) × (to ≤ length s.now) × (answer_room ≤ length out.old) }
+    ensures { Wrote (line_end machine (go_on (place_of place) (slice from to s.now))) out.old out.new result }
 {
     let len = place.len;
     if len == 0 {
@@ -132,15 +132,15 @@ fn answer_ended(place: Place, s: &[u8], from: usize, to: usize, out: &mut [u8]) 
 
 // The place before a sheet.
 pub fn empty() -> Place
-    ensures { place_of result ≡ newLine initial }
+    ensures { place_of result ≡ new_line initial }
 {
     new_line(State { largest: 0 })
 }
 
 // The first line of an answer sheet.
 pub fn open(out: &mut [u8]) -> usize
-    ensures count { result ≡ length (unlessShort out.old heading) }
-    ensures bytes { out.new ≡ unlessShort out.old heading ++ drop result out.old }
+    ensures count { result ≡ length (unless_short out.old heading) }
+    ensures bytes { out.new ≡ unless_short out.old heading ++ drop result out.old }
 {
     if out.len() < ANSWER_ROOM {
         return 0;
@@ -156,10 +156,10 @@ pub fn open(out: &mut [u8]) -> usize
 
 // A piece, as far as there is room for its answers.
 pub fn feed(place: Place, piece: &[u8], out: &mut [u8]) -> Fed
-    ensures read { result.read ≡ readWithin machine (length out.old) (place_of place) piece.now }
-    ensures place { place_of result.place ≡ cut (placeAfter machine (place_of place) (take result.read piece.now)) }
-    ensures count { result.written ≡ length (answersFrom machine (place_of place) (take result.read piece.now)) }
-    ensures bytes { out.new ≡ answersFrom machine (place_of place) (take result.read piece.now) ++ drop result.written out.old }
+    ensures read { result.read ≡ read_within machine (length out.old) (place_of place) piece.now }
+    ensures place { place_of result.place ≡ cut (place_after machine (place_of place) (take result.read piece.now)) }
+    ensures count { result.written ≡ length (answers_from machine (place_of place) (take result.read piece.now)) }
+    ensures bytes { out.new ≡ answers_from machine (place_of place) (take result.read piece.now) ++ drop result.written out.old }
 {
     let mut here = place;
     let mut i: usize = 0;
@@ -182,8 +182,8 @@ pub fn feed(place: Place, piece: &[u8], out: &mut [u8]) -> Fed
 
 // The sheet's end: a last line without its newline counts if it is not empty.
 pub fn finish(place: Place, out: &mut [u8]) -> usize
-    ensures count { result ≡ length (unlessShort out.old (answersAtEnd machine (place_of place))) }
-    ensures bytes { out.new ≡ unlessShort out.old (answersAtEnd machine (place_of place)) ++ drop result out.old }
+    ensures count { result ≡ length (unless_short out.old (answers_at_end machine (place_of place))) }
+    ensures bytes { out.new ≡ unless_short out.old (answers_at_end machine (place_of place)) ++ drop result out.old }
 {
     if out.len() < ANSWER_ROOM || place.len == 0 {
         return 0;

@@ -4,32 +4,32 @@ use Rattle.algebra.specs.Gauss.{ιᵍ, negᵍ, ◌+ᵍ◌, ◌*ᵍ◌}
 use Rattle.algebra.specs.Size.{abs}
 use Rattle.algebra.specs.Rounding.{nearest}
 use Rattle.word.specs.Compare.{between}
-use Rattle.point.specs.Limits.{inBox}
+use Rattle.point.specs.Limits.{in_box}
 use Rattle.series.specs.Series.{D}
 use Rattle.table_numbers.specs.Reciprocal.{reciprocal}
-use Rattle.table_numbers.specs.Cell.{isCell, cell_of}
-use Rattle.table_numbers.specs.Numbers48.{stepLogs, reciprocalLogs, constants48}
-use Rattle.table_numbers.specs.Table.{stepTable, reciprocalTable}
+use Rattle.table_numbers.specs.Cell.{is_cell, cell_of}
+use Rattle.table_numbers.specs.Numbers48.{step_logs, reciprocal_logs, constants48}
+use Rattle.table_numbers.specs.Table.{step_table, reciprocal_table}
 use Rattle.table_numbers.proofs.Promises.{StepPromise, ReciprocalPromise, ConstantsPromise}
-use Rattle.table_numbers.proofs.Kept.{step-test, steps-test, steps-kept, cells, reciprocal-test, reciprocals-kept, constants-test, constants-kept}
+use Rattle.table_numbers.proofs.Kept.{step_test, steps_test, steps_kept, cells, reciprocal_test, reciprocals_kept, constants_test, constants_kept}
 
-steps-48 : T (steps-test 48 stepTable 40)
-unfolding step-test stepTable stepLogs D ◌+ᵍ◌ ◌*ᵍ◌ negᵍ ιᵍ abs
-steps-48 = tt
+steps_48 : T (steps_test 48 step_table 40)
+unfolding step_test step_table step_logs D ◌+ᵍ◌ ◌*ᵍ◌ negᵍ ιᵍ abs
+steps_48 = tt
 
-pub step-promise : StepPromise 48 40 stepTable
-step-promise = steps-kept 48 stepTable 40 steps-48
+pub step_promise : StepPromise 48 40 step_table
+step_promise = steps_kept 48 step_table 40 steps_48
 
-logs-48 : T (cells (reciprocal-test 48 reciprocalTable))
-unfolding reciprocal-test reciprocal nearest reciprocalTable cell_of isCell inBox between reciprocalLogs D ◌+ᵍ◌ ◌*ᵍ◌ negᵍ ιᵍ abs
-logs-48 = tt
+logs_48 : T (cells (reciprocal_test 48 reciprocal_table))
+unfolding reciprocal_test reciprocal nearest reciprocal_table cell_of is_cell in_box between reciprocal_logs D ◌+ᵍ◌ ◌*ᵍ◌ negᵍ ιᵍ abs
+logs_48 = tt
 
-pub reciprocal-promise : ReciprocalPromise 48 reciprocalTable
-reciprocal-promise = reciprocals-kept 48 reciprocalTable logs-48
+pub reciprocal_promise : ReciprocalPromise 48 reciprocal_table
+reciprocal_promise = reciprocals_kept 48 reciprocal_table logs_48
 
-kept-48 : T (constants-test 48 constants48)
-unfolding constants-test constants48 D ◌+ᵍ◌ ◌*ᵍ◌ negᵍ ιᵍ abs
-kept-48 = tt
+kept_48 : T (constants_test 48 constants48)
+unfolding constants_test constants48 D ◌+ᵍ◌ ◌*ᵍ◌ negᵍ ιᵍ abs
+kept_48 = tt
 
-pub constants-promise : ConstantsPromise 48 constants48
-constants-promise = constants-kept 48 constants48 kept-48
+pub constants_promise : ConstantsPromise 48 constants48
+constants_promise = constants_kept 48 constants48 kept_48

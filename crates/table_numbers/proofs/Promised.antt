@@ -11,42 +11,42 @@ use Rattle.point.specs.Digit.{Trit, t-, t0, t+}
 use Rattle.table_numbers.specs.declared.Entry.{Entry}
 use Rattle.table_numbers.specs.Reciprocal.{centre}
 use Rattle.table_numbers.specs.Promise.{StepEntry}
-use Rattle.table_numbers.specs.Listed.{byDigit}
-use Rattle.table_numbers.specs.Numbers48.{stepLogs}
-use Rattle.table_numbers.specs.Table.{stepTable, reciprocalTable}
-use Rattle.table_numbers.specs.Rows.{entry, number, none, stepRow, part, row_at, RowPromise, LogPromise}
-use Rattle.table_numbers.proofs.Promise48.{step-promise, reciprocal-promise}
-use Rattle.table_numbers.proofs.RowLaws.{row-entry, row_of, no_row}
-use Rattle.table_numbers.proofs.DigitPlaces.{place, place-lt, outside}
+use Rattle.table_numbers.specs.Listed.{by_digit}
+use Rattle.table_numbers.specs.Numbers48.{step_logs}
+use Rattle.table_numbers.specs.Table.{step_table, reciprocal_table}
+use Rattle.table_numbers.specs.Rows.{entry, number, none, step_row, part, row_at, RowPromise, LogPromise}
+use Rattle.table_numbers.proofs.Promise48.{step_promise, reciprocal_promise}
+use Rattle.table_numbers.proofs.RowLaws.{row_entry, row_of, no_row}
+use Rattle.table_numbers.proofs.DigitPlaces.{place, place_lt, outside}
 
-pub row-promise : (n : ℕ) (dx : ℤ) → RowPromise n dx (stepRow n dx)
-row-promise n dx lo hi d k e = subst (λ x. StepEntry 48 n d (number (byDigit (stepRow n x) none d.im))) e
-    (subst (λ w. StepEntry 48 n d (number w)) (sym (row-entry n d.re d.im)) (step-promise n lo hi d k))
+pub row_promise : (n : ℕ) (dx : ℤ) → RowPromise n dx (step_row n dx)
+row_promise n dx lo hi d k e = subst (λ x. StepEntry 48 n d (number (by_digit (step_row n x) none d.im))) e
+    (subst (λ w. StepEntry 48 n d (number w)) (sym (row_entry n d.re d.im)) (step_promise n lo hi d k))
 
-pub row_kept : (n : ℕ) (dx : ℤ) {row : List Entry} → row ≡ stepRow n dx → (row ≡ stepRow n dx) × RowPromise n dx row
-row_kept n dx e = (e, subst (λ r. RowPromise n dx r) (sym e) (row-promise n dx))
+pub row_kept : (n : ℕ) (dx : ℤ) {row : List Entry} → row ≡ step_row n dx → (row ≡ step_row n dx) × RowPromise n dx row
+row_kept n dx e = (e, subst (λ r. RowPromise n dx r) (sym e) (row_promise n dx))
 
 -- there is none for what is no digit
-pub no_digit : (n : ℕ) (dx : ℤ) → between (negsuc 0) (pos 1) dx ≡ false → no_row ≡ stepRow n dx
-unfolding stepRow stepTable
-no_digit n dx e = ap row_of (sym (outside (get_or ([] ∷ stepLogs) n []) [] dx e))
+pub no_digit : (n : ℕ) (dx : ℤ) → between (negsuc 0) (pos 1) dx ≡ false → no_row ≡ step_row n dx
+unfolding step_row step_table
+no_digit n dx e = ap row_of (sym (outside (get_or ([] ∷ step_logs) n []) [] dx e))
 
 -- the row among those of all steps in one line
-pub part-place : {d : ℤ} → Trit d → part (place d) ≡ d
-part-place t- = refl
-part-place t0 = refl
-part-place t+ = refl
+pub part_place : {d : ℤ} → Trit d → part (place d) ≡ d
+part_place t- = refl
+part_place t0 = refl
+part_place t+ = refl
 
-pub row-at : (n : ℕ) {dx : ℤ} → Trit dx → row_at (3 * n + place dx) ≡ stepRow n dx
-row-at n {dx} t =
-    let l = place-lt t in
+pub row_at_lem : (n : ℕ) {dx : ℤ} → Trit dx → row_at (3 * n + place dx) ≡ step_row n dx
+row_at_lem n {dx} t =
+    let l = place_lt t in
     let p : (3 * n + place dx) / 3 ≡ n = omega (arith, l) in
     let q : (3 * n + place dx) % 3 ≡ place dx = omega (arith, l) in
-    ap₂ (λ m a. stepRow m (part a)) p q ∙ ap (stepRow n) (part-place t)
+    ap₂ (λ m a. step_row m (part a)) p q ∙ ap (step_row n) (part_place t)
 
-pub log-promise : (column row : ℤ) → LogPromise column row (entry (reciprocalTable (centre column) (centre row)))
-log-promise column row i = reciprocal-promise column row i
+pub log_promise : (column row : ℤ) → LogPromise column row (entry (reciprocal_table (centre column) (centre row)))
+log_promise column row i = reciprocal_promise column row i
 
-pub log-kept : (column row : ℤ) {e : Entry} → e ≡ entry (reciprocalTable (centre column) (centre row)) →
-    (e ≡ entry (reciprocalTable (centre column) (centre row))) × LogPromise column row e
-log-kept column row h = (h, subst (λ w. LogPromise column row w) (sym h) (log-promise column row))
+pub log_kept : (column row : ℤ) {e : Entry} → e ≡ entry (reciprocal_table (centre column) (centre row)) →
+    (e ≡ entry (reciprocal_table (centre column) (centre row))) × LogPromise column row e
+log_kept column row h = (h, subst (λ w. LogPromise column row w) (sym h) (log_promise column row))

@@ -29,18 +29,18 @@ Tied F v = (T : ℕ) → 24 ≤ T → Rule F T v.m v.c v.w
 module _ (k : Constants) where
   -- an eighth of a turn with half a doubling: 1 + i
   abbrev pub eighth : Move
-  eighth = record { m = 1; c = gi (pos 1) (pos 1); w = gi (pos k.half-ln-2) (pos k.quarter-pi) }
+  eighth = record { m = 1; c = gi (pos 1) (pos 1); w = gi (pos k.half_ln_2) (pos k.quarter_pi) }
 
   -- a quarter of a turn, and one back: i and −i
   abbrev pub quarter : Move
-  quarter = record { m = 1; c = iᵍ; w = gi (pos 0) (pos 2 *ℤ pos k.quarter-pi) }
+  quarter = record { m = 1; c = iᵍ; w = gi (pos 0) (pos 2 *ℤ pos k.quarter_pi) }
 
   abbrev pub quarter_back : Move
   quarter_back = record { m = 1; c = negᵍ iᵍ; w = negᵍ quarter.w }
 
   -- a doubling, and a halving: 2 and 1/2
   abbrev pub doubling : Move
-  doubling = record { m = 1; c = ιᵍ (pos 2); w = gi (pos k.ln-2) (pos 0) }
+  doubling = record { m = 1; c = ιᵍ (pos 2); w = gi (pos k.ln_2) (pos 0) }
 
   abbrev pub halving : Move
   halving = record { m = 2; c = ιᵍ (pos 1); w = negᵍ doubling.w }
@@ -49,11 +49,11 @@ module _ (k : Constants) where
 pub record ConstantsPromise (F : ℕ) (k : Constants) : Type 0 where
   pub eighths : Tied F (eighth k)
   pub quarters : Tied F (quarter k)
-  pub quarters-back : Tied F (quarter_back k)
+  pub quarters_back : Tied F (quarter_back k)
   pub doubles : Tied F (doubling k)
   pub halves : Tied F (halving k)
-  pub quarter-pi-low : pos 78 *ℤ two F ⩽ pos 100 *ℤ pos k.quarter-pi
-  pub quarter-pi-high : pos 100 *ℤ pos k.quarter-pi ⩽ pos 79 *ℤ two F
-  pub ln-2-low : pos 69 *ℤ two F ⩽ pos 100 *ℤ pos k.ln-2
-  pub ln-2-high : pos 100 *ℤ pos k.ln-2 ⩽ pos 70 *ℤ two F
-  pub half-ln-2-high : pos 100 *ℤ pos k.half-ln-2 ⩽ pos 35 *ℤ two F
+  pub quarter_pi_low : pos 78 *ℤ two F ⩽ pos 100 *ℤ pos k.quarter_pi
+  pub quarter_pi_high : pos 100 *ℤ pos k.quarter_pi ⩽ pos 79 *ℤ two F
+  pub ln_2_low : pos 69 *ℤ two F ⩽ pos 100 *ℤ pos k.ln_2
+  pub ln_2_high : pos 100 *ℤ pos k.ln_2 ⩽ pos 70 *ℤ two F
+  pub half_ln_2_high : pos 100 *ℤ pos k.half_ln_2 ⩽ pos 35 *ℤ two F

@@ -10,9 +10,9 @@ abbrev pub nought : 𝔾
 nought = gi (pos 0) (pos 0)
 
 -- −1, 0 and 1 read the first three of a list; any other number finds what stands outside
-abbrev pub byDigit : {A : Type 0} → List A → A → ℤ → A
-byDigit l o (negsuc zero) = get_or l 0 o
-byDigit l o (negsuc (suc n)) = o
-byDigit l o (pos zero) = get_or l 1 o
-byDigit l o (pos (suc zero)) = get_or l 2 o
-byDigit l o (pos (suc (suc n))) = o
+abbrev pub by_digit : {A : Type 0} → List A → A → ℤ → A
+by_digit l o (negsuc zero) = get_or l 0 o
+by_digit l o (negsuc (suc n)) = o
+by_digit l o (pos zero) = get_or l 1 o
+by_digit l o (pos (suc zero)) = get_or l 2 o
+by_digit l o (pos (suc (suc n))) = o

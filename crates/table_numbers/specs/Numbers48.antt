@@ -5,8 +5,8 @@ use Rattle.table_numbers.specs.Listed.{neg}
 use Rattle.table_numbers.specs.Promise.{Constants}
 
 -- ln(1 + d/2^n): for each n from 1 to 40 three rows by dx, each of three entries by dy, from −1 to 1 (01, The step)
-unfoldable pub stepLogs : List (List (List 𝔾))
-stepLogs =
+unfoldable pub step_logs : List (List (List 𝔾))
+step_logs =
     ((gi (neg 97551793252584) (neg 221069929750889) ∷ gi (neg 195103586505167) (pos 0) ∷ gi (neg 97551793252584) (pos 221069929750889) ∷ [])
     ∷ (gi (pos 31404662954650) (neg 130505199945453) ∷ gi (pos 0) (pos 0) ∷ gi (pos 31404662954650) (pos 130505199945453) ∷ [])
     ∷ (gi (pos 128956456207234) (neg 90564729805436) ∷ gi (pos 114128281861729) (pos 0) ∷ gi (pos 128956456207234) (pos 90564729805436) ∷ [])
@@ -170,8 +170,8 @@ stepLogs =
     ∷ []
 
 -- ln((a + ib)/64): for each X from 17 to 31 by Y from −31 to 31
-unfoldable pub reciprocalLogs : List (List 𝔾)
-reciprocalLogs =
+unfoldable pub reciprocal_logs : List (List 𝔾)
+reciprocal_logs =
     (gi (neg 26832584695840) (pos 300814032425413) ∷ gi (neg 11672188329189) (pos 293170134192944) ∷ gi (neg 827059118787) (pos 283973000852325) ∷
     gi (pos 15718704135285) (pos 274324720090156) ∷ gi (pos 33938087874588) (pos 262569802090085) ∷ gi (pos 48590669573041) (pos 249905311030956) ∷
     gi (pos 65337351244041) (pos 235870745793204) ∷ gi (pos 79385814518446) (pos 221069929750889) ∷ gi (pos 98100478112684) (pos 203500596660970) ∷
@@ -264,4 +264,4 @@ reciprocalLogs =
 
 -- the constants of EXP's reduction (02, E5)
 unfoldable pub constants48 : Constants
-constants48 = record { quarter-pi = 221069929750889; ln-2 = 195103586505167; half-ln-2 = 97551793252584 }
+constants48 = record { quarter_pi = 221069929750889; ln_2 = 195103586505167; half_ln_2 = 97551793252584 }

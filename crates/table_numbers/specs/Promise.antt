@@ -36,6 +36,6 @@ pub record ReciprocalEntry (F : ℕ) (c z : 𝔾) : Type 0 where
 
 -- ---- the constants of EXP's reduction (02, E5), in units: "Q and H the units nearest π/4 and ln 2", and "the units nearest ½·ln 2"
 pub record Constants : Type 0 where
-  pub quarter-pi : ℕ
-  pub ln-2 : ℕ
-  pub half-ln-2 : ℕ
+  pub quarter_pi : ℕ
+  pub ln_2 : ℕ
+  pub half_ln_2 : ℕ

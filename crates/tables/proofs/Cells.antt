@@ -11,12 +11,12 @@ use mir.Syntax.{w64}
 use mir.Val.{SFits}
 use Rattle.algebra.specs.Order.{◌⩽◌}
 use Rattle.algebra.proofs.Reify.{reify}
-use Rattle.algebra.proofs.Order.{pos-inj-le}
+use Rattle.algebra.proofs.Order.{pos_inj_le}
 use Rattle.algebra.proofs.Linear.{lin, ◌&◌, none}
-use Rattle.point.proofs.InLimits.{box-says}
+use Rattle.point.proofs.InLimits.{box_says}
 use Rattle.table_numbers.specs.Reciprocal.{reciprocal, centre, InTable}
-use Rattle.table_numbers.specs.Cell.{numbered, isCell, cell_of}
-use Rattle.table_numbers.specs.Rows.{entry, none as nothing, reciprocalAt}
+use Rattle.table_numbers.specs.Cell.{numbered, is_cell, cell_of}
+use Rattle.table_numbers.specs.Rows.{entry, none as nothing, reciprocal_at}
 use Rattle.tables.specs.Code.{CellFits}
 
 record Small (z : ℤ) : Type 0 where
@@ -25,37 +25,37 @@ record Small (z : ℤ) : Type 0 where
   below : nat_abs z < 256
 
 small : (z : ℤ) → pos 0 ⩽ z → z ⩽ pos 255 → Small z
-small (pos n) lo hi = record { fits = record { sfits = omega (arith, pos-inj-le hi) }; sign = tt; below = omega (arith, pos-inj-le hi) }
+small (pos n) lo hi = record { fits = record { sfits = omega (arith, pos_inj_le hi) }; sign = tt; below = omega (arith, pos_inj_le hi) }
 small (negsuc n) lo hi = absurd lo.le
 
 module _ (column row : ℤ) where
   -- ---- outside
-  pub no_number : isCell column row ≡ false → 256 ≡ cell_of column row
+  pub no_number : is_cell column row ≡ false → 256 ≡ cell_of column row
   unfolding cell_of
   no_number h = rw h
 
-  pub no-reciprocal : isCell column row ≡ false → nothing ≡ reciprocalAt column row
-  unfolding reciprocalAt
-  no-reciprocal h = rw h
+  pub no_reciprocal : is_cell column row ≡ false → nothing ≡ reciprocal_at column row
+  unfolding reciprocal_at
+  no_reciprocal h = rw h
 
   -- ---- inside
-  module _ (h : isCell column row ≡ true) where
+  module _ (h : is_cell column row ≡ true) where
     pub in_table : InTable column row
-    unfolding isCell
+    unfolding is_cell
     in_table = record {
-      left = (box-says h).re-lo;
-      right = lin (column ∷ []) ((box-says h).re-hi & none) (search reify depth 20) tt;
-      low = (box-says h).im-lo;
-      high = lin (row ∷ []) ((box-says h).im-hi & none) (search reify depth 20) tt;
+      left = (box_says h).re_lo;
+      right = lin (column ∷ []) ((box_says h).re_hi & none) (search reify depth 20) tt;
+      low = (box_says h).im_lo;
+      high = lin (row ∷ []) ((box_says h).im_hi & none) (search reify depth 20) tt;
     }
 
-    pub cell-number : nat_abs (numbered column row) ≡ cell_of column row
+    pub cell_number : nat_abs (numbered column row) ≡ cell_of column row
     unfolding cell_of
-    cell-number = rw h
+    cell_number = rw h
 
-    pub cell-reciprocal : entry (reciprocal (centre column) (centre row)) ≡ reciprocalAt column row
-    unfolding reciprocalAt
-    cell-reciprocal = rw h
+    pub cell_reciprocal_lem : entry (reciprocal (centre column) (centre row)) ≡ reciprocal_at column row
+    unfolding reciprocal_at
+    cell_reciprocal_lem = rw h
 
   module _ (i : InTable column row) where
     abbrev ρ : List ℤ
@@ -65,8 +65,8 @@ module _ (column row : ℤ) where
     number = small (numbered column row) (lin ρ (i.left & i.low & none) (search reify depth 20) tt)
         (lin ρ (i.right & i.high & none) (search reify depth 20) tt)
 
-    pub cell-fits : CellFits column row
-    cell-fits = record {
+    pub cell_fits : CellFits column row
+    cell_fits = record {
       left = (small (column -ℤ pos 8) (lin ρ (i.left & none) (search reify depth 20) tt) (lin ρ (i.right & none) (search reify depth 20) tt)
           ).fits;
       columns = (small ((column -ℤ pos 8) *ℤ pos 32) (lin ρ (i.left & none) (search reify depth 20) tt)

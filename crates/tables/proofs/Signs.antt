@@ -11,24 +11,24 @@ use lib.Signed.{lt_z}
 use Rattle.word.proofs.Compare.{holds, fails}
 use Rattle.point.specs.Digit.{Trit, t-, t0, t+}
 use Rattle.table_numbers.specs.declared.Entry.{Entry}
-use Rattle.table_numbers.specs.Listed.{byDigit}
+use Rattle.table_numbers.specs.Listed.{by_digit}
 use Rattle.tables.specs.Code.{by_sign}
 
-pub sign-minus : (d minus nought plus : ℤ) → lt_z d (pos 0) ≡ true → minus ≡ by_sign d minus nought plus
-sign-minus (negsuc n) minus nought plus e = refl
-sign-minus (pos n) minus nought plus e = absurd (not-suc-le-zero (ltb→lt n 0 (holds e)))
+pub sign_minus : (d minus nought plus : ℤ) → lt_z d (pos 0) ≡ true → minus ≡ by_sign d minus nought plus
+sign_minus (negsuc n) minus nought plus e = refl
+sign_minus (pos n) minus nought plus e = absurd (not-suc-le-zero (ltb→lt n 0 (holds e)))
 
-pub sign-plus : (d minus nought plus : ℤ) → lt_z d (pos 0) ≡ false → (d ≡ pos 0 → ⊥) → plus ≡ by_sign d minus nought plus
-sign-plus (negsuc n) minus nought plus e h = absurd (fails e)
-sign-plus (pos zero) minus nought plus e h = absurd (h refl)
-sign-plus (pos (suc n)) minus nought plus e h = refl
+pub sign_plus : (d minus nought plus : ℤ) → lt_z d (pos 0) ≡ false → (d ≡ pos 0 → ⊥) → plus ≡ by_sign d minus nought plus
+sign_plus (negsuc n) minus nought plus e h = absurd (fails e)
+sign_plus (pos zero) minus nought plus e h = absurd (h refl)
+sign_plus (pos (suc n)) minus nought plus e h = refl
 
-pub by-sign : (l : List Entry) (o : Entry) {d : ℤ} → Trit d →
+pub by_sign_lem : (l : List Entry) (o : Entry) {d : ℤ} → Trit d →
     record {
       re = by_sign d (get_or l 0 o).re (get_or l 1 o).re (get_or l 2 o).re;
       im = by_sign d (get_or l 0 o).im (get_or l 1 o).im
           (get_or l 2 o).im;
-    } ≡ byDigit l o d
-by-sign l o t- = refl
-by-sign l o t0 = refl
-by-sign l o t+ = refl
+    } ≡ by_digit l o d
+by_sign_lem l o t- = refl
+by_sign_lem l o t0 = refl
+by_sign_lem l o t+ = refl

@@ -25,11 +25,11 @@ pub record CellFits (column row : ℤ) : Type 0 where
 abbrev pub norm : ℤ → ℤ → ℤ
 norm x y = x *ℤ x +ℤ y *ℤ y
 
-abbrev pub one-over : ℤ → ℤ → ℕ
-one-over x y = 134217728 / nat_abs (norm x y)
+abbrev pub one_over : ℤ → ℤ → ℕ
+one_over x y = 134217728 / nat_abs (norm x y)
 
 abbrev pub inverse : ℤ → ℤ → 𝔾
-inverse x y = gi (shr_z (pos (one-over x y) *ℤ x +ℤ pos 32768) (2 ^ 16)) (shr_z (pos 32768 -ℤ pos (one-over x y) *ℤ y) (2 ^ 16))
+inverse x y = gi (shr_z (pos (one_over x y) *ℤ x +ℤ pos 32768) (2 ^ 16)) (shr_z (pos 32768 -ℤ pos (one_over x y) *ℤ y) (2 ^ 16))
 
 -- nothing on the way to it overflows
 pub record InverseFits (x y : ℤ) : Type 0 where
@@ -38,9 +38,9 @@ pub record InverseFits (x y : ℤ) : Type 0 where
   pub s : SFits w64 (norm x y)
   pub divisor : T (non_neg (norm x y)) × Fits w32 (nat_abs (norm x y))
   pub some : 0 < nat_abs (norm x y)
-  pub small : one-over x y < 2 ^ 63
-  pub word : to_z w64 (one-over x y) ≡ pos (one-over x y)
-  pub by-x : SFits w64 (pos (one-over x y) *ℤ x)
-  pub by-y : SFits w64 (pos (one-over x y) *ℤ y)
-  pub above : SFits w64 (pos (one-over x y) *ℤ x +ℤ pos 32768)
-  pub below : SFits w64 (pos 32768 -ℤ pos (one-over x y) *ℤ y)
+  pub small : one_over x y < 2 ^ 63
+  pub word : to_z w64 (one_over x y) ≡ pos (one_over x y)
+  pub by_x : SFits w64 (pos (one_over x y) *ℤ x)
+  pub by_y : SFits w64 (pos (one_over x y) *ℤ y)
+  pub above : SFits w64 (pos (one_over x y) *ℤ x +ℤ pos 32768)
+  pub below : SFits w64 (pos 32768 -ℤ pos (one_over x y) *ℤ y)

@@ -6,94 +6,94 @@ use native.Mathlib.Omega.{arith}
 use lib.Dec.{lit<}
 use lib.IntN.{ℤ}
 use lib.ListN.{length}
-use Rattle.buffer.specs.Decimal.{showNumber}
-use Rattle.buffer.specs.Lines.{fieldBytes, lineBytes}
+use Rattle.buffer.specs.Decimal.{show_number}
+use Rattle.buffer.specs.Lines.{field_bytes, line_bytes}
 use Rattle.buffer.proofs.Lines.{AllFit}
-use Rattle.scan.specs.Decimal.{readNumber}
-use Rattle.scan.specs.Fields.{split, fields, sameBytes}
+use Rattle.scan.specs.Decimal.{read_number}
+use Rattle.scan.specs.Fields.{split, fields, same_bytes}
 use Rattle.scan.specs.Numbers.{are, numbers}
 use Rattle.scan.proofs.Find.{Without}
-use Rattle.scan.proofs.Read.{read-show}
-use Rattle.scan.proofs.Joined.{marked, split-joined, without-append, without-marked, lacks-says, number-without, numbers-without}
+use Rattle.scan.proofs.Read.{read_show}
+use Rattle.scan.proofs.Joined.{marked, split_joined, without_append, without_marked, lacks_says, number_without, numbers_without}
 use Rattle.point.specs.declared.Point.{Point}
 use Rattle.text.specs.declared.Line.{Line}
-use Rattle.text.specs.Line.{EXP, LOG, kindLine, line_of, readLine}
+use Rattle.text.specs.Line.{EXP, LOG, kind_line, line_of, read_line}
 use Rattle.text.proofs.Serial.{IsSerial}
-use Rattle.text.proofs.Room.{serial-fits}
+use Rattle.text.proofs.Room.{serial_fits}
 use Rattle.text.specs.declared.Line.TheVariants as line
 
 -- ---- a line without its newline: the serial, a word, and numbers
-abbrev pub bodyBytes : ℤ → List ℕ → List ℤ → List ℕ
-bodyBytes serial word zs = showNumber serial ++ (9 ∷ word) ++ fieldBytes zs
+abbrev pub body_bytes : ℤ → List ℕ → List ℤ → List ℕ
+body_bytes serial word zs = show_number serial ++ (9 ∷ word) ++ field_bytes zs
 
 -- an answer line is that and its newline
-pub line-body : (serial : ℤ) (word : List ℕ) (zs : List ℤ) → lineBytes serial word zs ≡ bodyBytes serial word zs ++ 10 ∷ []
-unfolding lineBytes
-line-body serial word zs = refl
+pub line_body : (serial : ℤ) (word : List ℕ) (zs : List ℤ) → line_bytes serial word zs ≡ body_bytes serial word zs ++ 10 ∷ []
+unfolding line_bytes
+line_body serial word zs = refl
 
-fields-marked : (zs : List ℤ) → fieldBytes zs ≡ marked 9 (map showNumber zs)
-unfolding fieldBytes marked
-fields-marked [] = refl
-fields-marked (z ∷ zs) = ap (λ (l : List ℕ). 9 ∷ showNumber z ++ l) (fields-marked zs)
+fields_marked : (zs : List ℤ) → field_bytes zs ≡ marked 9 (map show_number zs)
+unfolding field_bytes marked
+fields_marked [] = refl
+fields_marked (z ∷ zs) = ap (λ (l : List ℕ). 9 ∷ show_number z ++ l) (fields_marked zs)
 
 -- its fields
-pub body-fields : (serial : ℤ) (word : List ℕ) (zs : List ℤ) → Without 9 word →
-    fields (bodyBytes serial word zs) ≡ showNumber serial ∷ word ∷ map showNumber zs
+pub body_fields : (serial : ℤ) (word : List ℕ) (zs : List ℤ) → Without 9 word →
+    fields (body_bytes serial word zs) ≡ show_number serial ∷ word ∷ map show_number zs
 unfolding marked
-body-fields serial word zs w = ap fields (append_assoc (showNumber serial) (9 ∷ word) (fieldBytes zs) ∙ rw fields-marked)
-    ∙ split-joined 9 (showNumber serial) (word ∷ map showNumber zs) (number-without 9 serial (lit< tt)) (w, numbers-without 9 zs (lit< tt))
+body_fields serial word zs w = ap fields (append_assoc (show_number serial) (9 ∷ word) (field_bytes zs) ∙ rw fields_marked)
+    ∙ split_joined 9 (show_number serial) (word ∷ map show_number zs) (number_without 9 serial (lit< tt)) (w, numbers_without 9 zs (lit< tt))
 
 -- it has no newline, so an answer line is one line
-pub body-plain : (serial : ℤ) (word : List ℕ) (zs : List ℤ) → Without 10 word → Without 10 (bodyBytes serial word zs)
-body-plain serial word zs w = without-append 10 (showNumber serial ++ 9 ∷ word) (fieldBytes zs)
-    (without-append 10 (showNumber serial) (9 ∷ word) (number-without 10 serial (lit< tt)) (tab, w))
-    (rw fields-marked (without-marked 10 9 (map showNumber zs) tab (numbers-without 10 zs (lit< tt))))
+pub body_plain : (serial : ℤ) (word : List ℕ) (zs : List ℤ) → Without 10 word → Without 10 (body_bytes serial word zs)
+body_plain serial word zs w = without_append 10 (show_number serial ++ 9 ∷ word) (field_bytes zs)
+    (without_append 10 (show_number serial) (9 ∷ word) (number_without 10 serial (lit< tt)) (tab, w))
+    (rw fields_marked (without_marked 10 9 (map show_number zs) tab (numbers_without 10 zs (lit< tt))))
   where
     tab : ◌≡◌ {A = ℕ} 9 10 → ⊥
     tab e = omega arith
 
-pub line-split : (serial : ℤ) (word : List ℕ) (zs : List ℤ) → Without 10 word →
-    split 10 [] (lineBytes serial word zs) ≡ bodyBytes serial word zs ∷ [] ∷ []
-unfolding lineBytes marked
-line-split serial word zs w = split-joined 10 (bodyBytes serial word zs) ([] ∷ []) (body-plain serial word zs w) (tt, tt)
+pub line_split : (serial : ℤ) (word : List ℕ) (zs : List ℤ) → Without 10 word →
+    split 10 [] (line_bytes serial word zs) ≡ body_bytes serial word zs ∷ [] ∷ []
+unfolding line_bytes marked
+line_split serial word zs w = split_joined 10 (body_bytes serial word zs) ([] ∷ []) (body_plain serial word zs w) (tt, tt)
 
 -- ---- the fields read
-pub numbers-shown : (zs : List ℤ) → AllFit zs → numbers (length zs) (map showNumber zs) ≡ are zs
+pub numbers_shown : (zs : List ℤ) → AllFit zs → numbers (length zs) (map show_number zs) ≡ are zs
 unfolding numbers
-numbers-shown [] f = refl
-numbers-shown (z ∷ zs) f = rw (read-show z f.0, numbers-shown zs f.1)
+numbers_shown [] f = refl
+numbers_shown (z ∷ zs) f = rw (read_show z f.0, numbers_shown zs f.1)
 
 -- ---- an input line
 -- the numbers of a line, from N on
-abbrev pub expNumbers : ℤ → Point → Point → List ℤ
-expNumbers n exponent start = n ∷ exponent.x ∷ exponent.y ∷ start.x ∷ start.y ∷ []
+abbrev pub exp_numbers : ℤ → Point → Point → List ℤ
+exp_numbers n exponent start = n ∷ exponent.x ∷ exponent.y ∷ start.x ∷ start.y ∷ []
 
-abbrev pub logNumbers : ℤ → Point → List ℤ
-logNumbers n point = n ∷ point.x ∷ point.y ∷ []
+abbrev pub log_numbers : ℤ → Point → List ℤ
+log_numbers n point = n ∷ point.x ∷ point.y ∷ []
 
 -- a malformed line has no bytes
-unfoldable pub inputBytes : Line → List ℕ
-inputBytes line.Malformed = []
-inputBytes (line.Exp serial n exponent start) = bodyBytes serial EXP (expNumbers n exponent start)
-inputBytes (line.Log serial n point) = bodyBytes serial LOG (logNumbers n point)
+unfoldable pub input_bytes : Line → List ℕ
+input_bytes line.Malformed = []
+input_bytes (line.Exp serial n exponent start) = body_bytes serial EXP (exp_numbers n exponent start)
+input_bytes (line.Log serial n point) = body_bytes serial LOG (log_numbers n point)
 
 -- the serial lies in its range, and the numbers fit 64 bits
 abbrev pub Writable : Line → Type 0
 Writable line.Malformed = Unit {0}
-Writable (line.Exp serial n exponent start) = IsSerial serial × AllFit (expNumbers n exponent start)
-Writable (line.Log serial n point) = IsSerial serial × AllFit (logNumbers n point)
+Writable (line.Exp serial n exponent start) = IsSerial serial × AllFit (exp_numbers n exponent start)
+Writable (line.Log serial n point) = IsSerial serial × AllFit (log_numbers n point)
 
-read-kind : (serial : ℤ) (word : List ℕ) (zs : List ℤ) → IsSerial serial → Without 9 word →
-    readLine (bodyBytes serial word zs) ≡ kindLine serial (word ∷ map showNumber zs)
-unfolding readLine line_of
-read-kind serial word zs s w = rw (body-fields serial word zs w, read-show serial (serial-fits serial s), s)
+read_kind : (serial : ℤ) (word : List ℕ) (zs : List ℤ) → IsSerial serial → Without 9 word →
+    read_line (body_bytes serial word zs) ≡ kind_line serial (word ∷ map show_number zs)
+unfolding read_line line_of
+read_kind serial word zs s w = rw (body_fields serial word zs w, read_show serial (serial_fits serial s), s)
 
 -- THE LAW: an input line that is written is read back
-pub read-written : (l : Line) → Writable l → readLine (inputBytes l) ≡ l
-unfolding inputBytes readLine line_of split readNumber kindLine sameBytes
-read-written line.Malformed f = refl
-read-written (line.Exp serial n exponent start) f =
-    read-kind serial EXP (expNumbers n exponent start) f.0 (lacks-says 9 EXP tt)
-    ∙ rw (numbers-shown (expNumbers n exponent start) f.1)
-read-written (line.Log serial n point) f =
-    read-kind serial LOG (logNumbers n point) f.0 (lacks-says 9 LOG tt) ∙ rw (numbers-shown (logNumbers n point) f.1)
+pub read_written : (l : Line) → Writable l → read_line (input_bytes l) ≡ l
+unfolding input_bytes read_line line_of split read_number kind_line same_bytes
+read_written line.Malformed f = refl
+read_written (line.Exp serial n exponent start) f =
+    read_kind serial EXP (exp_numbers n exponent start) f.0 (lacks_says 9 EXP tt)
+    ∙ rw (numbers_shown (exp_numbers n exponent start) f.1)
+read_written (line.Log serial n point) f =
+    read_kind serial LOG (log_numbers n point) f.0 (lacks_says 9 LOG tt) ∙ rw (numbers_shown (log_numbers n point) f.1)

@@ -11,85 +11,85 @@ use lib.Seq.{slice}
 use borrow.Author.Tests.{ltb-true, ltb-false}
 use Rattle.algebra.proofs.Test.{either}
 use Rattle.scan.specs.declared.Number.{Number}
-use Rattle.scan.specs.Decimal.{readNumber}
-use Rattle.scan.specs.Fields.{fields, fields_at, sameBytes}
+use Rattle.scan.specs.Decimal.{read_number}
+use Rattle.scan.specs.Fields.{fields, fields_at, same_bytes}
 use Rattle.scan.proofs.Find.{Ended}
-use Rattle.scan.proofs.Fields.{no_field, field-parts}
+use Rattle.scan.proofs.Fields.{no_field, field_parts}
 use Rattle.scan.specs.Numbers.{Numbers, are, none, numbers}
 use Rattle.text.specs.declared.Line.{Line}
-use Rattle.text.specs.Line.{isSerial, EXP, LOG, formed, expOf, logOf, kindLine, serialLine, line_of, readLine, serialOf}
+use Rattle.text.specs.Line.{is_serial, EXP, LOG, formed, exp_of, log_of, kind_line, serial_line, line_of, read_line, serial_of}
 use Rattle.scan.specs.declared.Number.TheVariants as num
 
 abbrev pub IsSerial : ℤ → Type 0
-IsSerial z = isSerial z ≡ true
+IsSerial z = is_serial z ≡ true
 
 abbrev pub Ranged : Number → Type 0
 Ranged num.Not = Unit {0}
 Ranged (num.Is serial) = IsSerial serial
 
-kind-serial : (serial : ℤ) (fs : List (List ℕ)) → IsSerial serial → Ranged (serialOf (kindLine serial fs))
-unfolding kindLine
-kind-serial serial [] h = tt
-kind-serial serial (f ∷ fs) h =
-    either (sameBytes f EXP) (λ e. rw e (exp (numbers 5 fs)))
-    (λ e. rw e (either (sameBytes f LOG) (λ g. rw g (log (numbers 3 fs))) (λ g. rw g tt)))
+kind_serial : (serial : ℤ) (fs : List (List ℕ)) → IsSerial serial → Ranged (serial_of (kind_line serial fs))
+unfolding kind_line
+kind_serial serial [] h = tt
+kind_serial serial (f ∷ fs) h =
+    either (same_bytes f EXP) (λ e. rw e (exp (numbers 5 fs)))
+    (λ e. rw e (either (same_bytes f LOG) (λ g. rw g (log (numbers 3 fs))) (λ g. rw g tt)))
   where
-    exp : (r : Numbers) → Ranged (serialOf (formed r (expOf serial)))
+    exp : (r : Numbers) → Ranged (serial_of (formed r (exp_of serial)))
     exp (are zs) = h
     exp none = tt
 
-    log : (r : Numbers) → Ranged (serialOf (formed r (logOf serial)))
+    log : (r : Numbers) → Ranged (serial_of (formed r (log_of serial)))
     log (are zs) = h
     log none = tt
 
-pub line-serial : (l : List ℕ) → Ranged (serialOf (readLine l))
-unfolding readLine line_of
-line-serial l = go (fields l)
+pub line_serial : (l : List ℕ) → Ranged (serial_of (read_line l))
+unfolding read_line line_of
+line_serial l = go (fields l)
   where
-    number : (r : Number) (fs : List (List ℕ)) → Ranged (serialOf (serialLine r fs))
+    number : (r : Number) (fs : List (List ℕ)) → Ranged (serial_of (serial_line r fs))
     number num.Not fs = tt
-    number (num.Is z) fs = either (isSerial z) (λ e. rw e (kind-serial z fs e)) (λ e. rw e tt)
+    number (num.Is z) fs = either (is_serial z) (λ e. rw e (kind_serial z fs e)) (λ e. rw e tt)
 
-    go : (fs : List (List ℕ)) → Ranged (serialOf (line_of fs))
+    go : (fs : List (List ℕ)) → Ranged (serial_of (line_of fs))
     go [] = tt
-    go (f ∷ fs) = number (readNumber f) fs
+    go (f ∷ fs) = number (read_number f) fs
 
 -- ---- the serial is the first field, and others follow it
 abbrev Some : Number → Type 0
 Some num.Not = ⊥
 Some (num.Is z) = Unit {0}
 
--- what serialOf reads is z
+-- what serial_of reads is z
 record Read (z : ℤ) (r : Number) (fs : List (List ℕ)) : Type 0 where
   number : r ≡ num.Is z
   others : 0 < length fs
 
-kind-read : (serial z : ℤ) (fs : List (List ℕ)) → serialOf (kindLine serial fs) ≡ num.Is z → Read z (num.Is serial) fs
-unfolding kindLine
-kind-read serial z [] e = absurd (subst Some (sym e) tt)
-kind-read serial z (f ∷ fs) e =
-    either (sameBytes f EXP) (λ g. kind (numbers 5 fs) (expOf serial) (λ zs. refl) (rw g at e))
-    (λ g. either (sameBytes f LOG) (λ h. kind (numbers 3 fs) (logOf serial) (λ zs. refl) (rw (g, h) at e))
+kind_read : (serial z : ℤ) (fs : List (List ℕ)) → serial_of (kind_line serial fs) ≡ num.Is z → Read z (num.Is serial) fs
+unfolding kind_line
+kind_read serial z [] e = absurd (subst Some (sym e) tt)
+kind_read serial z (f ∷ fs) e =
+    either (same_bytes f EXP) (λ g. kind (numbers 5 fs) (exp_of serial) (λ zs. refl) (rw g at e))
+    (λ g. either (same_bytes f LOG) (λ h. kind (numbers 3 fs) (log_of serial) (λ zs. refl) (rw (g, h) at e))
     (λ h. absurd (subst Some (sym (rw (g, h) at e)) tt)))
   where
     more : 0 < suc (length fs)
     more = omega arith
 
-    kind : (r : Numbers) (k : List ℤ → Line) → ((zs : List ℤ) → serialOf (k zs) ≡ num.Is serial) → serialOf (formed r k) ≡ num.Is z →
+    kind : (r : Numbers) (k : List ℤ → Line) → ((zs : List ℤ) → serial_of (k zs) ≡ num.Is serial) → serial_of (formed r k) ≡ num.Is z →
         Read z (num.Is serial) (f ∷ fs)
     kind (are zs) k is e = record { number = sym (is zs) ∙ e; others = more }
     kind none k is e = absurd (subst Some (sym e) tt)
 
-line_read : (z : ℤ) (r : Number) (fs : List (List ℕ)) → serialOf (serialLine r fs) ≡ num.Is z → Read z r fs
+line_read : (z : ℤ) (r : Number) (fs : List (List ℕ)) → serial_of (serial_line r fs) ≡ num.Is z → Read z r fs
 line_read z num.Not fs e = absurd (subst Some (sym e) tt)
 line_read z (num.Is y) fs e =
-    either (isSerial y) (λ h. kind-read y z fs (rw h at e)) (λ h. absurd (subst Some (sym (rw h at e)) tt))
+    either (is_serial y) (λ h. kind_read y z fs (rw h at e)) (λ h. absurd (subst Some (sym (rw h at e)) tt))
 
 -- e is the place of the first tab
-pub first-number : (l : List ℕ) (z : ℤ) {e : ℕ} → Ended 9 l 0 e → serialOf (readLine l) ≡ num.Is z → (readNumber (slice 0 e l) ≡ num.Is z) × (e < length l)
-unfolding readLine line_of
-first-number l z {e} f h =
-    let r = line_read z (readNumber (slice 0 e l)) (fields_at l (e + 1)) (rw (field-parts f) at h) in (
+pub first_number : (l : List ℕ) (z : ℤ) {e : ℕ} → Ended 9 l 0 e → serial_of (read_line l) ≡ num.Is z → (read_number (slice 0 e l) ≡ num.Is z) × (e < length l)
+unfolding read_line line_of
+first_number l z {e} f h =
+    let r = line_read z (read_number (slice 0 e l)) (fields_at l (e + 1)) (rw (field_parts f) at h) in (
       r.number,
       either (ltb (length l) (e + 1)) (λ t. absurd (none (rw (no_field l (e + 1) (ltb-true (length l) (e + 1) t)) at r.others)))
           (λ t. omega (arith, ltb-false (length l) (e + 1) t)),

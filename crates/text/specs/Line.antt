@@ -2,8 +2,8 @@
 use Rattle.std.specs.Prelude.{Bool, cond, List, [], ◌∷◌, ℕ, ℤ, pos, get_or}
 use Rattle.word.specs.Compare.{between}
 use Rattle.scan.specs.declared.Number.{Number}
-use Rattle.scan.specs.Decimal.{readNumber}
-use Rattle.scan.specs.Fields.{fields, sameBytes}
+use Rattle.scan.specs.Decimal.{read_number}
+use Rattle.scan.specs.Fields.{fields, same_bytes}
 use Rattle.scan.specs.Numbers.{Numbers, are, none, numbers}
 use Rattle.point.specs.declared.Point.{Point}
 use Rattle.text.specs.declared.Line.{Line}
@@ -29,46 +29,46 @@ formed (are zs) k = k zs
 abbrev pub nth : List ℤ → ℕ → ℤ
 nth zs i = get_or zs i (pos 0)
 
-abbrev pub pointAt : List ℤ → ℕ → ℕ → Point
-pointAt zs i j = record { x = nth zs i; y = nth zs j }
+abbrev pub point_at : List ℤ → ℕ → ℕ → Point
+point_at zs i j = record { x = nth zs i; y = nth zs j }
 
 -- N, the exponent and the start
-abbrev pub expOf : ℤ → List ℤ → Line
-expOf serial zs = Exp serial (nth zs 0) (pointAt zs 1 2) (pointAt zs 3 4)
+abbrev pub exp_of : ℤ → List ℤ → Line
+exp_of serial zs = Exp serial (nth zs 0) (point_at zs 1 2) (point_at zs 3 4)
 
 -- N and the point
-abbrev pub logOf : ℤ → List ℤ → Line
-logOf serial zs = Log serial (nth zs 0) (pointAt zs 1 2)
+abbrev pub log_of : ℤ → List ℤ → Line
+log_of serial zs = Log serial (nth zs 0) (point_at zs 1 2)
 
-unfoldable pub kindLine : ℤ → List (List ℕ) → Line
-kindLine serial [] = Malformed
-kindLine serial (f ∷ fs) =
-    cond (sameBytes f EXP) (formed (numbers 5 fs) (expOf serial))
-    (cond (sameBytes f LOG) (formed (numbers 3 fs) (logOf serial))
+unfoldable pub kind_line : ℤ → List (List ℕ) → Line
+kind_line serial [] = Malformed
+kind_line serial (f ∷ fs) =
+    cond (same_bytes f EXP) (formed (numbers 5 fs) (exp_of serial))
+    (cond (same_bytes f LOG) (formed (numbers 3 fs) (log_of serial))
     Malformed)
 
 -- ---- the serial, 01's kernel number, 1 to 9999999, and the rest of the line
-abbrev pub isSerial : ℤ → Bool
-isSerial z = between (pos 1) (pos 9999999) z
+abbrev pub is_serial : ℤ → Bool
+is_serial z = between (pos 1) (pos 9999999) z
 
-abbrev pub serialLine : Number → List (List ℕ) → Line
-serialLine num.Not fs = Malformed
-serialLine (num.Is serial) fs = cond (isSerial serial) (kindLine serial fs) Malformed
+abbrev pub serial_line : Number → List (List ℕ) → Line
+serial_line num.Not fs = Malformed
+serial_line (num.Is serial) fs = cond (is_serial serial) (kind_line serial fs) Malformed
 
 unfoldable pub line_of : List (List ℕ) → Line
 line_of [] = Malformed
-line_of (f ∷ fs) = serialLine (readNumber f) fs
+line_of (f ∷ fs) = serial_line (read_number f) fs
 
 -- "The line comes to the call without its newline"
-unfoldable pub readLine : List ℕ → Line
-readLine l = line_of (fields l)
+unfoldable pub read_line : List ℕ → Line
+read_line l = line_of (fields l)
 
 -- ---- the serial of a line that has the form
-abbrev pub serialOf : Line → Number
-serialOf Malformed = num.Not
-serialOf (Exp serial n exponent start) = num.Is serial
-serialOf (Log serial n point) = num.Is serial
+abbrev pub serial_of : Line → Number
+serial_of Malformed = num.Not
+serial_of (Exp serial n exponent start) = num.Is serial
+serial_of (Log serial n point) = num.Is serial
 
 -- the most bytes that a line of the form has
-abbrev pub longest-line : ℕ
-longest-line = 116
+abbrev pub longest_line : ℕ
+longest_line = 116

@@ -2,9 +2,9 @@
 ghost use Rattle.std.specs.Prelude.{◌≡◌, pos};
 ghost use Rattle.scan.specs.Fields.{fields_at};
 ghost use Rattle.scan.specs.Numbers.{numbers};
-ghost use Rattle.answer.specs.Record.{recordOf};
-ghost use Rattle.text.specs.Line.{formed, expOf, logOf, kindLine, readLine, serialOf};
-ghost use Rattle.text.specs.Answer.{refusedReply, answerReply, replyOf, reply, refusalFor, count_for, outFor};
+ghost use Rattle.answer.specs.Record.{record_of};
+ghost use Rattle.text.specs.Line.{formed, exp_of, log_of, kind_line, read_line, serial_of};
+ghost use Rattle.text.specs.Answer.{refused_reply, answer_reply, reply_of, reply, refusal_for, count_for, out_for};
 ghost use Rattle.text.specs.Code.{Replied};
 
 use answer::{Answer, Figures};
@@ -41,7 +41,7 @@ pub enum Line {
 impl Line {
     // Its serial, if it has the form.
     pub fn serial(self) -> Number
-        ensures { result ≡ serialOf self }
+        ensures { result ≡ serial_of self }
     {
         match self {
             Line::Exp {
@@ -67,7 +67,7 @@ pub struct LineAnswer {
 
 // An EXP line's fields from N on.
 fn exp_line(s: &[u8], serial: i64, at: usize) -> Line
-    ensures { result ≡ formed (numbers 5 (fields_at s.now at)) (expOf serial) }
+    ensures { result ≡ formed (numbers 5 (fields_at s.now at)) (exp_of serial) }
 {
     let mut v = [0i64; 5];
     if scan::read_numbers(s, at, &mut v) {
@@ -88,7 +88,7 @@ fn exp_line(s: &[u8], serial: i64, at: usize) -> Line
 
 // A LOG line's fields from N on.
 fn log_line(s: &[u8], serial: i64, at: usize) -> Line
-    ensures { result ≡ formed (numbers 3 (fields_at s.now at)) (logOf serial) }
+    ensures { result ≡ formed (numbers 3 (fields_at s.now at)) (log_of serial) }
 {
     let mut v = [0i64; 3];
     if scan::read_numbers(s, at, &mut v) {
@@ -106,7 +106,7 @@ fn log_line(s: &[u8], serial: i64, at: usize) -> Line
 
 // A line's fields from its kind on.
 fn kind_line(s: &[u8], serial: i64, at: usize) -> Line
-    ensures { result ≡ kindLine serial (fields_at s.now at) }
+    ensures { result ≡ kind_line serial (fields_at s.now at) }
 {
     if s.len() < at {
         return Line::Malformed;
@@ -123,7 +123,7 @@ fn kind_line(s: &[u8], serial: i64, at: usize) -> Line
 
 // The line that bytes are, which come without their newline.
 pub fn read_line(s: &[u8]) -> Line
-    ensures { result ≡ readLine s.now }
+    ensures { result ≡ read_line s.now }
 {
     let e = scan::find_byte(s, 0, 9);
     let Number::Is(serial) = scan::read_number(s, 0, e) else {
@@ -142,7 +142,7 @@ pub fn read_line(s: &[u8]) -> Line
 
 // A line that is turned away.
 fn refused(serial: i64, refusal: i64, out: &mut [u8]) -> LineAnswer
-    ensures { Replied (refusedReply serial refusal) out.old out.new result.refusal result.written }
+    ensures { Replied (refused_reply serial refusal) out.old out.new result.refusal result.written }
 {
     let fields = [refusal];
     let written = buffer::put_line(serial, b"REF", &fields, out, 0);
@@ -151,7 +151,7 @@ fn refused(serial: i64, refusal: i64, out: &mut [u8]) -> LineAnswer
 
 // The figures of an answer, as a line of its kind.
 fn put_figures(kind: Kind, serial: i64, n: i64, f: Figures, out: &mut [u8]) -> usize
-    ensures { Replied (answerReply kind serial n (recordOf (Answer.Answered f))) out.old out.new (pos 0) result }
+    ensures { Replied (answer_reply kind serial n (record_of (Answer.Answered f))) out.old out.new (pos 0) result }
 {
     let r = Answer::Answered(f).record();
     match kind {
@@ -168,7 +168,7 @@ fn put_figures(kind: Kind, serial: i64, n: i64, f: Figures, out: &mut [u8]) -> u
 
 // An answer of either kind.
 fn put_answer(kind: Kind, serial: i64, n: i64, answer: Answer, out: &mut [u8]) -> LineAnswer
-    ensures { Replied (answerReply kind serial n (recordOf answer)) out.old out.new result.refusal result.written }
+    ensures { Replied (answer_reply kind serial n (record_of answer)) out.old out.new result.refusal result.written }
 {
     match answer {
         Answer::Answered(f) => {
@@ -187,9 +187,9 @@ fn put_answer(kind: Kind, serial: i64, n: i64, answer: Answer, out: &mut [u8]) -
 
 // The answer to a line that is turned away under a number, which may come from the lines before it.
 pub fn refuse(serial: i64, refusal: i64, out: &mut [u8]) -> LineAnswer
-    ensures refusal { result.refusal ≡ refusalFor (refusedReply serial refusal) out.old }
-    ensures count { result.written ≡ count_for (refusedReply serial refusal) out.old }
-    ensures bytes { out.new ≡ outFor (refusedReply serial refusal) out.old }
+    ensures refusal { result.refusal ≡ refusal_for (refused_reply serial refusal) out.old }
+    ensures count { result.written ≡ count_for (refused_reply serial refusal) out.old }
+    ensures bytes { out.new ≡ out_for (refused_reply serial refusal) out.old }
 {
     if out.len() < ANSWER_ROOM {
         return LineAnswer {
@@ -202,9 +202,9 @@ pub fn refuse(serial: i64, refusal: i64, out: &mut [u8]) -> LineAnswer
 
 // The answer to a line that is read.
 pub fn reply(line: Line, out: &mut [u8]) -> LineAnswer
-    ensures refusal { result.refusal ≡ refusalFor (replyOf line) out.old }
-    ensures count { result.written ≡ count_for (replyOf line) out.old }
-    ensures bytes { out.new ≡ outFor (replyOf line) out.old }
+    ensures refusal { result.refusal ≡ refusal_for (reply_of line) out.old }
+    ensures count { result.written ≡ count_for (reply_of line) out.old }
+    ensures bytes { out.new ≡ out_for (reply_of line) out.old }
 {
     if out.len() < ANSWER_ROOM {
         return LineAnswer {
@@ -232,9 +232,9 @@ pub fn reply(line: Line, out: &mut [u8]) -> LineAnswer
 
 // THE CALL: the answer to a line, which comes without its newline.
 pub fn answer_line(line: &[u8], out: &mut [u8]) -> LineAnswer
-    ensures refusal { result.refusal ≡ refusalFor (reply line.now) out.old }
+    ensures refusal { result.refusal ≡ refusal_for (reply line.now) out.old }
     ensures count { result.written ≡ count_for (reply line.now) out.old }
-    ensures bytes { out.new ≡ outFor (reply line.now) out.old }
+    ensures bytes { out.new ≡ out_for (reply line.now) out.old }
 {
     reply(read_line(line), out)
 }

@@ -10,7 +10,7 @@ use lib.IntN.{ℤ, pos, negsuc, neg_ℤ, nat_abs, suc_ℤ, +ℤ_one, -ℤ_one, �
 use lib.Signed.{non_neg, mag, lt_z}
 use mir.Syntax.{w64}
 use mir.Val.{Fits, SFits, of_z}
-use Rattle.word.proofs.Fits.{zero-sub}
+use Rattle.word.proofs.Fits.{zero_sub}
 use Rattle.word.proofs.Compare.{holds, fails}
 
 -- of a negative z: −(z + 1) is its magnitude
@@ -25,15 +25,15 @@ next_fits : (n : ℕ) → n < 2 ^ 63 → SFits w64 (suc_ℤ (negsuc n))
 next_fits zero h = record { sfits = omega arith }
 next_fits (suc n) h = record { sfits = omega arith }
 
-flip-next : (n : ℕ) → neg_ℤ (suc_ℤ (negsuc n)) ≡ pos n
-flip-next zero = refl
-flip-next (suc n) = refl
+flip_next : (n : ℕ) → neg_ℤ (suc_ℤ (negsuc n)) ≡ pos n
+flip_next zero = refl
+flip_next (suc n) = refl
 
 pub negative : {z : ℤ} → SFits w64 z → lt_z z (pos 0) ≡ true → Negative z
 negative {z = pos n} f e = absurd (not-suc-le-zero (ltb→lt n 0 (holds e)))
 negative {z = negsuc n} f e = record {
   next = rw (+ℤ_one (negsuc n)) (next_fits n f.sfits);
-  flip = zero-sub (negsuc n +ℤ pos 1) ∙ (ap neg_ℤ (+ℤ_one (negsuc n)) ∙ flip-next n);
+  flip = zero_sub (negsuc n +ℤ pos 1) ∙ (ap neg_ℤ (+ℤ_one (negsuc n)) ∙ flip_next n);
   small = f.sfits;
   bits = omega (arith, f.sfits);
   size = omega arith;

@@ -20,37 +20,37 @@ pub back : {x : ℤ} → SFits w64 x → to_z w64 (of_z w64 x) ≡ x
 back {x} h = to_z-of_z w64 x h
 
 -- an unsigned number cast to a signed one
-pub word-pos : (n : ℕ) → n < 2 ^ 63 → to_z w64 n ≡ pos n
-word-pos n h = to_z_pos w64 n h
+pub word_pos : (n : ℕ) → n < 2 ^ 63 → to_z w64 n ≡ pos n
+word_pos n h = to_z_pos w64 n h
 
 -- a test `==` of signed numbers tells of their words
-pub word-inj : {x y : ℤ} → SFits w64 x → SFits w64 y → of_z w64 x ≡ of_z w64 y → x ≡ y
-word-inj f g e = sym (back f) ∙ (ap (to_z w64) e ∙ back g)
+pub word_inj : {x y : ℤ} → SFits w64 x → SFits w64 y → of_z w64 x ≡ of_z w64 y → x ≡ y
+word_inj f g e = sym (back f) ∙ (ap (to_z w64) e ∙ back g)
 
 -- a negation in code is 0 − x
-pub zero-sub : (x : ℤ) → pos 0 -ℤ x ≡ neg_ℤ x
-zero-sub x = +ℤ_idl (neg_ℤ x)
+pub zero_sub : (x : ℤ) → pos 0 -ℤ x ≡ neg_ℤ x
+zero_sub x = +ℤ_idl (neg_ℤ x)
 
 -- ---- a number fits exactly where −2^63 ≤ x < 2^63
-pub sfits-range : {x : ℤ} → neg_ℤ (two 63) ⩽ x → x ⋖ two 63 → SFits w64 x
-sfits-range {x = pos n} lo hi = record { sfits = ltb→lt n (2 ^ 63) hi.lt }
-sfits-range {x = negsuc n} lo hi = record { sfits = omega (arith, leb→le n 9223372036854775807 lo.le) }
+pub sfits_range : {x : ℤ} → neg_ℤ (two 63) ⩽ x → x ⋖ two 63 → SFits w64 x
+sfits_range {x = pos n} lo hi = record { sfits = ltb→lt n (2 ^ 63) hi.lt }
+sfits_range {x = negsuc n} lo hi = record { sfits = omega (arith, leb→le n 9223372036854775807 lo.le) }
 
 -- THE WAY from a bound of sizes to a need: at a bound that computes, as two 61 +ℤ two 61, the test is `tt`
-pub sfits-size : {x b : ℤ} → Size x b → T (lt_z b (two 63)) → SFits w64 x
-sfits-size {x} {b} h t = sfits-range
+pub sfits_size : {x b : ℤ} → Size x b → T (lt_z b (two 63)) → SFits w64 x
+sfits_size {x} {b} h t = sfits_range
     (lin (x ∷ b ∷ two 63 ∷ []) (h.lo & lt_z_yes {a = b} {b = two 63} t &< none) (search reify depth 20) tt)
     (lin< (x ∷ b ∷ two 63 ∷ []) (h.hi & lt_z_yes {a = b} {b = two 63} t &< none) (search reify depth 20) tt)
 
 -- ---- as a number is given
-pub sfits-mag : (x : ℤ) → mag x < 2 ^ 63 → SFits w64 x
-sfits-mag x h = record { sfits = h }
+pub sfits_mag : (x : ℤ) → mag x < 2 ^ 63 → SFits w64 x
+sfits_mag x h = record { sfits = h }
 
 pub sfits_pos : {n : ℕ} → n < 2 ^ 63 → SFits w64 (pos n)
 sfits_pos h = record { sfits = h }
 
-pub sfits-negsuc : {n : ℕ} → n < 2 ^ 63 → SFits w64 (negsuc n)
-sfits-negsuc h = record { sfits = h }
+pub sfits_negsuc : {n : ℕ} → n < 2 ^ 63 → SFits w64 (negsuc n)
+sfits_negsuc h = record { sfits = h }
 
 pub sfits_neg : (n : ℕ) → n ≤ 2 ^ 63 → SFits w64 (neg_ℤ (pos n))
 sfits_neg zero h = record { sfits = lit< tt }

@@ -13,7 +13,7 @@
 --   sum-fits : {x y : ℤ} → Size x (two 61) → Size y (two 61) → SFits w64 (x +ℤ y)
 --   sum-fits h g = sfits-size (size-add h g) tt
 --
--- A branch tells of a test, `simp (back, f.fx) at c.if1.taken : lt_z x (pos 0) ≡ true`; `ltZ-true` makes the order of it.
+-- A branch tells of a test, `simp (back, f.fx) at c.if1.taken : lt_z x (pos 0) ≡ true`; `lt_z_true` makes the order of it.
 pub mod Fits
 pub mod Shift
 pub mod Compare

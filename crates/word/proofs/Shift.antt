@@ -17,38 +17,38 @@ use Rattle.algebra.specs.Rounding.{ceiling}
 use Rattle.algebra.specs.Size.{abs, Size}
 use Rattle.algebra.proofs.Integer.{ℤR}
 use Rattle.algebra.proofs.Reify.{ring!, reify}
-use Rattle.algebra.proofs.Order.{⩽-trans, pos-mono}
+use Rattle.algebra.proofs.Order.{⩽_trans, pos_mono}
 use Rattle.algebra.proofs.Linear.{lin, ◌&◌, ◌&≡◌, none}
-use Rattle.algebra.proofs.Power.{two≥1, two_pos, two-whole}
-use Rattle.algebra.proofs.Floor.{floor-unique}
-use Rattle.algebra.proofs.Parts.{size-abs, abs-size, size-mul}
-use Rattle.word.proofs.Fits.{back, sfits-size}
+use Rattle.algebra.proofs.Power.{two≥1, two_pos, two_whole}
+use Rattle.algebra.proofs.Floor.{floor_unique}
+use Rattle.algebra.proofs.Parts.{size_abs, abs_size, size_mul}
+use Rattle.word.proofs.Fits.{back, sfits_size}
 
 -- ---- right
-natAbs-shift : (x : ℤ) (m : ℕ) → nat_abs (shr_z x m) ≤ nat_abs x
-natAbs-shift (pos a) m = div-le_self a m
-natAbs-shift (negsuc a) m = omega (arith, div-le_self a m)
+nat_abs_shift : (x : ℤ) (m : ℕ) → nat_abs (shr_z x m) ≤ nat_abs x
+nat_abs_shift (pos a) m = div-le_self a m
+nat_abs_shift (negsuc a) m = omega (arith, div-le_self a m)
 
-pub size-shift : {x b : ℤ} (m : ℕ) → Size x b → Size (shr_z x m) b
+pub size_shift : {x b : ℤ} (m : ℕ) → Size x b → Size (shr_z x m) b
 unfolding abs
-size-shift {x} m h = abs-size (⩽-trans (pos-mono (natAbs-shift x m)) (size-abs h))
+size_shift {x} m h = abs_size (⩽_trans (pos_mono (nat_abs_shift x m)) (size_abs h))
 
-pub sfits-shift : {x : ℤ} (m : ℕ) → SFits w64 x → SFits w64 (shr_z x m)
-sfits-shift {x} m h = record { sfits = omega (arith, mag_shr x m, h.sfits) }
+pub sfits_shift : {x : ℤ} (m : ℕ) → SFits w64 x → SFits w64 (shr_z x m)
+sfits_shift {x} m h = record { sfits = omega (arith, mag_shr x m, h.sfits) }
 
 -- c·2^m shifted right by n is c·2^(m−n), also below zero
-pub shift-constant : (c : ℤ) (m n : ℕ) → n ≤ m → shr_z (c *ℤ two m) (2 ^ n) ≡ c *ℤ two (m - n)
-shift-constant c m n h = floor-unique (2 ^ n) (two_pos n) (c *ℤ two m) (c *ℤ two (m - n))
+pub shift_constant : (c : ℤ) (m n : ℕ) → n ≤ m → shr_z (c *ℤ two m) (2 ^ n) ≡ c *ℤ two (m - n)
+shift_constant c m n h = floor_unique (2 ^ n) (two_pos n) (c *ℤ two m) (c *ℤ two (m - n))
     (lin (c ∷ two n ∷ two m ∷ two (m - n) ∷ []) (whole &≡ none) (search reify depth 20) tt)
     (lin (c ∷ two n ∷ two m ∷ two (m - n) ∷ []) (whole &≡ two≥1 n & none) (search reify depth 20) tt)
   where
     whole : c *ℤ (two n *ℤ two (m - n)) ≡ c *ℤ two m
-    whole = ap (λ u. c *ℤ u) (two-whole n m h)
+    whole = ap (λ u. c *ℤ u) (two_whole n m h)
 
 -- the same as the machine reads it back
-pub shift-constant-word : (c : ℤ) (m n : ℕ) → n ≤ m → SFits w64 (c *ℤ two m) →
+pub shift_constant_word : (c : ℤ) (m n : ℕ) → n ≤ m → SFits w64 (c *ℤ two m) →
     to_z w64 (of_z w64 (shr_z (c *ℤ two m) (2 ^ n))) ≡ c *ℤ two (m - n)
-shift-constant-word c m n h f = back (sfits-shift (2 ^ n) f) ∙ shift-constant c m n h
+shift_constant_word c m n h f = back (sfits_shift (2 ^ n) f) ∙ shift_constant c m n h
 
 -- a quotient rounded up is `-((c * m) >> n)` with c below zero
 pub record CeilingFits (c m b : ℤ) (n : ℕ) : Type 0 where
@@ -58,13 +58,13 @@ pub record CeilingFits (c m b : ℤ) (n : ℕ) : Type 0 where
   pub size : Size (shr_z (c *ℤ m) (2 ^ n)) b
   pub made : neg_ℤ (shr_z (c *ℤ m) (2 ^ n)) ≡ ceiling (neg_ℤ c *ℤ m) (2 ^ n)
 
-pub ceiling-fits : {c m a b : ℤ} (n : ℕ) → Size c a → Size m b → T (lt_z b (two 63)) → T (lt_z (a *ℤ b) (two 63)) → CeilingFits c m (a *ℤ b) n
+pub ceiling_fits : {c m a b : ℤ} (n : ℕ) → Size c a → Size m b → T (lt_z b (two 63)) → T (lt_z (a *ℤ b) (two 63)) → CeilingFits c m (a *ℤ b) n
 unfolding ceiling
-ceiling-fits {c} {m} n p q s t = record {
-  given = sfits-size q s;
-  product = sfits-size (size-mul p q) t;
-  down = sfits-size (size-shift (2 ^ n) (size-mul p q)) t;
-  size = size-shift (2 ^ n) (size-mul p q);
+ceiling_fits {c} {m} n p q s t = record {
+  given = sfits_size q s;
+  product = sfits_size (size_mul p q) t;
+  down = sfits_size (size_shift (2 ^ n) (size_mul p q)) t;
+  size = size_shift (2 ^ n) (size_mul p q);
   made = ap (λ u. neg_ℤ (shr_z u (2 ^ n))) twice;
 }
   where
@@ -76,12 +76,12 @@ ceiling-fits {c} {m} n p q s t = record {
 wrap : (M d a p j : ℕ) → d + suc a ≡ M → suc a * suc p ≡ suc j → suc j ≤ M → d * suc p ≡ M * p + (M - suc j)
 wrap M d a p j h e l = omega (arith, ap (λ n. n * suc p) h)
 
-pub shift-left : (x : ℤ) (k : ℕ) → SFits w64 (x *ℤ two k) → to_z w64 ((of_z w64 x * 2 ^ k) % 2 ^ 64) ≡ x *ℤ two k
-shift-left (pos a) k f = ap (to_z w64) cut ∙ to_z_pos w64 (a * 2 ^ k) f.sfits
+pub shift_left : (x : ℤ) (k : ℕ) → SFits w64 (x *ℤ two k) → to_z w64 ((of_z w64 x * 2 ^ k) % 2 ^ 64) ≡ x *ℤ two k
+shift_left (pos a) k f = ap (to_z w64) cut ∙ to_z_pos w64 (a * 2 ^ k) f.sfits
   where
     cut : (a * 2 ^ k) % 2 ^ 64 ≡ a * 2 ^ k
     cut = mod-eq_of_lt {m = 2 ^ 64} (omega (arith, f.sfits))
-shift-left (negsuc a) k f = go (suc a * 2 ^ k) refl f
+shift_left (negsuc a) k f = go (suc a * 2 ^ k) refl f
   where
     go : (p : ℕ) → suc a * 2 ^ k ≡ p → SFits w64 (neg_ℤ (pos p)) → to_z w64 (((2 ^ 64 - suc a) * 2 ^ k) % 2 ^ 64) ≡ neg_ℤ (pos p)
     go zero e g = absurd (none (mul-pos (suc-le-suc zero-le) (two_pos k)))

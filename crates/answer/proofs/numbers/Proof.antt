@@ -1,6 +1,6 @@
 -- `answer::numbers` meets its contract. Written out, so that a refusal names the number that stands in the wrong place.
 use mathlib.Core.Path.{refl}
-use Rattle.word.proofs.Fits.{back, sfits-mag}
+use Rattle.word.proofs.Fits.{back, sfits_mag}
 use Rattle.answer.proofs.numbers.Statement.{statement}
 use Rattle.answer.proofs.numbers.Tie as tie
 
@@ -16,13 +16,13 @@ returns c =
     let f = s.args.f in
     rw (
       back s.ranges.refusal,
-      back (sfits-mag f.value.x t1.struct_told.given.0.1),
-      back (sfits-mag f.value.y t2.struct-told2.given.1.0.1),
-      back (sfits-mag f.binary_exponent t3.struct-told3.given.1.0.1),
-      back (sfits-mag f.quadrant t4.struct-told4.given.1.1.0.1),
-      back (sfits-mag f.error_bound t5.struct-told5.given.1.1.1.0.1),
-      back (sfits-mag f.remainder.x t6.struct-told6.given.0.1),
-      back (sfits-mag f.remainder.y c.struct-told7.given.1.0.1),
+      back (sfits_mag f.value.x t1.struct_told.given.0.1),
+      back (sfits_mag f.value.y t2.struct-told2.given.1.0.1),
+      back (sfits_mag f.binary_exponent t3.struct-told3.given.1.0.1),
+      back (sfits_mag f.quadrant t4.struct-told4.given.1.1.0.1),
+      back (sfits_mag f.error_bound t5.struct-told5.given.1.1.1.0.1),
+      back (sfits_mag f.remainder.x t6.struct-told6.given.0.1),
+      back (sfits_mag f.remainder.y c.struct-told7.given.1.0.1),
     )
     refl
 

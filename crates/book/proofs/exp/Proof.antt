@@ -7,15 +7,15 @@ use Rattle.algebra.proofs.Linear.{lin, ◌&◌, none}
 use Rattle.word.proofs.Fits.{back}
 use Rattle.answer.specs.Remainder.{RemainderBelow}
 use Rattle.exponential.specs.Answer.{Close}
-use Rattle.exponential.proofs.Close.{exp-close, exp-remainder}
+use Rattle.exponential.proofs.Close.{exp_close, exp_remainder}
 use Rattle.book.specs.declared.Settled.{Settled}
-use Rattle.book.specs.Call.{Operation, Exp, callerOf, answerTo, expBy, outcome, OfAnswer}
+use Rattle.book.specs.Call.{Operation, Exp, caller_of, answer_to, exp_by, outcome, OfAnswer}
 use Rattle.book.proofs.Calls.{costs, denied, refused, answered, meets}
 use Rattle.book.proofs.exp.Statement.{statement}
 use Rattle.book.proofs.exp.Tie as tie
 
 -- who called, and what EXP answered
-named : (c : tie.After-caller-of) → callerOf c.before.args.caller ≡ c.caller-of.result
+named : (c : tie.After-caller-of) → caller_of c.before.args.caller ≡ c.caller-of.result
 named c = sym (rw (back c.before.ranges.caller) at c.caller-of.ensures)
 
 abbrev asked : tie.Start → Operation
@@ -24,19 +24,19 @@ asked s = let a = s.args in Exp a.n a.exponent.x a.exponent.y a.start.x a.start.
 abbrev caller : tie.After-exp → tie.After-caller-of
 caller c = c.before.before.before.before
 
-replied : (c : tie.After-exp) → answerTo (asked (caller c).before) ≡ c.exp.result
+replied : (c : tie.After-exp) → answer_to (asked (caller c).before) ≡ c.exp.result
 replied c = sym (rw (back (caller c).before.ranges.n) at c.exp.ensures.0)
 
 -- the three clauses from the first
 clauses : (s : tie.Start) {r : Settled} → let a = s.args in
-    let c = expBy a.caller a.n a.exponent.x a.exponent.y a.start.x a.start.y in r ≡ outcome c a.book →
+    let c = exp_by a.caller a.n a.exponent.x a.exponent.y a.start.x a.start.y in r ≡ outcome c a.book →
     (r ≡ outcome c a.book) × (OfAnswer (Close a.n a.exponent.x a.exponent.y a.start.x a.start.y) r.reply
     × OfAnswer (RemainderBelow 48 a.n) r.reply)
 clauses s = let a = s.args in
-    meets (expBy a.caller a.n a.exponent.x a.exponent.y a.start.x a.start.y) a.book
+    meets (exp_by a.caller a.n a.exponent.x a.exponent.y a.start.x a.start.y) a.book
     (Close a.n a.exponent.x a.exponent.y a.start.x a.start.y) (RemainderBelow 48 a.n)
-    (exp-close a.n a.exponent.x a.exponent.y a.start.x a.start.y)
-    (exp-remainder a.n a.exponent.x a.exponent.y a.start.x a.start.y)
+    (exp_close a.n a.exponent.x a.exponent.y a.start.x a.start.y)
+    (exp_remainder a.n a.exponent.x a.exponent.y a.start.x a.start.y)
 
 returns : tie.Need-returns
 returns c =

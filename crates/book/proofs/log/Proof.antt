@@ -11,15 +11,15 @@ use Rattle.algebra.proofs.Linear.{lin, ◌&◌, none}
 use Rattle.word.proofs.Fits.{back}
 use Rattle.answer.specs.Remainder.{RemainderBelow}
 use Rattle.logarithm.specs.Answer.{Close}
-use Rattle.logarithm.proofs.Close.{log-close, log-remainder}
+use Rattle.logarithm.proofs.Close.{log_close, log_remainder}
 use Rattle.book.specs.declared.Settled.{Settled}
-use Rattle.book.specs.Call.{Operation, Log, callerOf, answerTo, paid, logBy, outcome, OfAnswer}
-use Rattle.book.proofs.Calls.{costs, left-fits, left_back, denied, refused, answered, meets}
+use Rattle.book.specs.Call.{Operation, Log, caller_of, answer_to, paid, log_by, outcome, OfAnswer}
+use Rattle.book.proofs.Calls.{costs, left_fits, left_back, denied, refused, answered, meets}
 use Rattle.book.proofs.log.Statement.{statement}
 use Rattle.book.proofs.log.Tie as tie
 
 -- who called, and what LOG answered
-named : (c : tie.After-caller-of) → callerOf c.before.args.caller ≡ c.caller-of.result
+named : (c : tie.After-caller-of) → caller_of c.before.args.caller ≡ c.caller-of.result
 named c = sym (rw (back c.before.ranges.caller) at c.caller-of.ensures)
 
 abbrev asked : tie.Start → Operation
@@ -28,16 +28,16 @@ asked s = let a = s.args in Log a.n a.p.x a.p.y
 abbrev caller : tie.After-log → tie.After-caller-of
 caller c = c.before.before.before.before
 
-replied : (c : tie.After-log) → answerTo (asked (caller c).before) ≡ c.log.result
+replied : (c : tie.After-log) → answer_to (asked (caller c).before) ≡ c.log.result
 replied c = sym (rw (back (caller c).before.ranges.n) at c.log.ensures.0)
 
 -- the three clauses from the first
 clauses : (s : tie.Start) {r : Settled} → let a = s.args in
-    let c = logBy a.caller a.n a.p.x a.p.y in r ≡ outcome c a.book →
+    let c = log_by a.caller a.n a.p.x a.p.y in r ≡ outcome c a.book →
     (r ≡ outcome c a.book) × (OfAnswer (Close a.n a.p.x a.p.y) r.reply × OfAnswer (RemainderBelow 48 a.n) r.reply)
 clauses s = let a = s.args in
-    meets (logBy a.caller a.n a.p.x a.p.y) a.book (Close a.n a.p.x a.p.y) (RemainderBelow 48 a.n)
-    (log-close a.n a.p.x a.p.y) (log-remainder a.n a.p.x a.p.y)
+    meets (log_by a.caller a.n a.p.x a.p.y) a.book (Close a.n a.p.x a.p.y) (RemainderBelow 48 a.n)
+    (log_close a.n a.p.x a.p.y) (log_remainder a.n a.p.x a.p.y)
 
 -- an answered LOG costs a step at least, so the cost fits
 module _ (c : tie.After-answer) where
@@ -49,7 +49,7 @@ module _ (c : tie.After-answer) where
 
   fits : SFits w64 (begun.args.n -ℤ pos 2)
   fits = let n = begun.args.n in
-      left-fits {c = pos 2} begun.fits.n (lin (n ∷ []) none (search reify depth 20) tt) (lin (n ∷ []) (least & none) (search reify depth 20) tt)
+      left_fits {c = pos 2} begun.fits.n (lin (n ∷ []) none (search reify depth 20) tt) (lin (n ∷ []) (least & none) (search reify depth 20) tt)
 
 returns : tie.Need-returns
 returns c =

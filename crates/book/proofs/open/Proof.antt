@@ -5,7 +5,7 @@ use lib.IntN.{pos}
 use borrow.Author.Rules.{rules}
 use Rattle.word.specs.Compare.{between}
 use Rattle.word.proofs.Fits.{back}
-use Rattle.book.specs.Book.{isAllowance, opened}
+use Rattle.book.specs.Book.{is_allowance, opened}
 use Rattle.book.proofs.open.Statement.{statement}
 use Rattle.book.proofs.open.Tie as tie
 
@@ -16,10 +16,10 @@ is-between-requires-2 : tie.Need-is-between-requires-2
 is-between-requires-2 c κs = search rules
 
 -- ---- what the two tests say
-first : (c : tie.After-is-between) → isAllowance c.before.args.first ≡ c.is-between.result
-first c = ap (between (pos 0) (pos 1000000)) (sym (back c.before.ranges.first)) ∙ sym c.is-between.ensures
+first : (c : tie.After-is-between) → is_allowance c.before.args.first ≡ c.is_between.result
+first c = ap (between (pos 0) (pos 1000000)) (sym (back c.before.ranges.first)) ∙ sym c.is_between.ensures
 
-second : (c : tie.After-is-between2) → isAllowance c.before.before.before.args.second ≡ c.is-between2.result
+second : (c : tie.After-is-between2) → is_allowance c.before.before.before.args.second ≡ c.is-between2.result
 second c = ap (between (pos 0) (pos 1000000)) (sym (back c.before.before.before.ranges.second)) ∙ sym c.is-between2.ensures
 
 returns : tie.Need-returns

@@ -9,7 +9,7 @@ use lib.ListN.{length}
 use borrow.Author.Rules.{rules}
 use borrow.Author.Tests.{leb-true, leb-false}
 use Rattle.word.proofs.Fits.{back}
-use Rattle.buffer.specs.Lines.{lineBytes}
+use Rattle.buffer.specs.Lines.{line_bytes}
 use Rattle.buffer.proofs.Fitting.{written, left_alone}
 use Rattle.buffer.proofs.put_line.Statement.{statement}
 use Rattle.buffer.proofs.put_line.Tie as tie
@@ -20,14 +20,14 @@ module _ (s : tie.Start) where
   out = s.args.out.now
 
   abbrev all : List ℕ
-  all = lineBytes s.args.serial s.args.word.now s.args.fields.now
+  all = line_bytes s.args.serial s.args.word.now s.args.fields.now
 
 abbrev start : tie.After-line-fits → tie.Start
 start c = c.before.before.before.before
 
-tested : (c : tie.After-line-fits) (t : Bool) → c.line-fits.result ≡ t →
+tested : (c : tie.After-line-fits) (t : Bool) → c.line_fits.result ≡ t →
     leb (length (all (start c))) (length (out (start c)) - (start c).args.at) ≡ t
-tested c t e = sym (simp (back, (start c).ranges.serial) at c.line-fits.ensures) ∙ e
+tested c t e = sym (simp (back, (start c).ranges.serial) at c.line_fits.ensures) ∙ e
 
 room : (c : tie.Then2) → let s = start c.before in s.args.at + length (all s) ≤ length (out s)
 room c = let s = start c.before in

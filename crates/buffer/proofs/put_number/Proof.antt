@@ -9,7 +9,7 @@ use lib.ListN.{length}
 use borrow.Author.Rules.{rules}
 use borrow.Author.Tests.{leb-true, leb-false}
 use Rattle.word.proofs.Fits.{back}
-use Rattle.buffer.specs.Decimal.{showNumber}
+use Rattle.buffer.specs.Decimal.{show_number}
 use Rattle.buffer.proofs.Fitting.{written, left_alone}
 use Rattle.buffer.proofs.put_number.Statement.{statement}
 use Rattle.buffer.proofs.put_number.Tie as tie
@@ -20,7 +20,7 @@ module _ (s : tie.Start) where
   out = s.args.out.now
 
   abbrev all : List ℕ
-  all = showNumber s.args.z
+  all = show_number s.args.z
 
 abbrev start : tie.After-number-fits → tie.Start
 start c = c.before.before.before

@@ -2,7 +2,7 @@
 use borrow.Author.Rules.{rules}
 use native.Mathlib.Omega.{arith}
 use Rattle.buffer.specs.Words.{encode}
-use Rattle.buffer.proofs.Words.{length-encode}
+use Rattle.buffer.proofs.Words.{length_encode}
 use Rattle.buffer.proofs.Fitting.{written, left_alone}
 use Rattle.buffer.proofs.put_words.Statement.{statement}
 use Rattle.buffer.proofs.put_words.Tie as tie
@@ -24,12 +24,12 @@ same_length c = search rules
 returns-2 : tie.Need-returns-2
 returns-2 c =
     let s = c.before.before.before.before.before.before.before in
-    written (omega (arith, length-encode s.args.numbers.now)) c.before.before.write-words.ensures
+    written (omega (arith, length_encode s.args.numbers.now)) c.before.before.write-words.ensures
 
 returns-3 : tie.Need-returns-3
 returns-3 c =
     let s = c.before.before.before in
-    left_alone s.args.out.now s.args.at (encode s.args.numbers.now) (omega (arith, length-encode s.args.numbers.now))
+    left_alone s.args.out.now s.args.at (encode s.args.numbers.now) (omega (arith, length_encode s.args.numbers.now))
 
 pub put-words-spec : {M : Type 1} → statement M
 put-words-spec =

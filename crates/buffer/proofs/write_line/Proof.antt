@@ -4,11 +4,11 @@ use Prim.Native.Nat.{ℕ, ◌≤◌, ◌+◌}
 use native.Mathlib.Omega.{arith}
 use lib.ListN.{length, length-set, length-append}
 use Rattle.word.proofs.Fits.{back}
-use Rattle.buffer.specs.Decimal.{showNumber}
+use Rattle.buffer.specs.Decimal.{show_number}
 use Rattle.buffer.specs.Code.{Put}
-use Rattle.buffer.specs.Lines.{fieldBytes, lineBytes}
+use Rattle.buffer.specs.Lines.{field_bytes, line_bytes}
 use Rattle.buffer.proofs.Put.{then, one, kept}
-use Rattle.buffer.proofs.Lines.{line-length}
+use Rattle.buffer.proofs.Lines.{line_length}
 use Rattle.buffer.proofs.write_line.Statement.{statement}
 use Rattle.buffer.proofs.write_line.Tie as tie
 
@@ -18,16 +18,16 @@ module _ (c : tie.Start) where
   out = c.args.out.now
 
   abbrev first : List ℕ
-  first = showNumber c.args.serial
+  first = show_number c.args.serial
 
   abbrev second : List ℕ
   second = 9 ∷ c.args.word.now
 
   abbrev others : List ℕ
-  others = fieldBytes c.args.fields.now
+  others = field_bytes c.args.fields.now
 
   room : c.args.at + (length first + length second + length others + 1) ≤ length out
-  room = omega (arith, line-length c.args.serial c.args.word.now c.args.fields.now, c.requires)
+  room = omega (arith, line_length c.args.serial c.args.word.now c.args.fields.now, c.requires)
 
 -- ---- what each call has written
 module _ (c : tie.After-write-number) where
@@ -95,7 +95,7 @@ same_length : tie.Need-same-length
 same_length c = simp length-set (kept (numbers c.before.before))
 
 returns : tie.Need-returns
-unfolding lineBytes
+unfolding line_bytes
 returns c = then (numbers c.before.before) (one _ _ _)
 
 pub write-line-spec : {M : Type 1} → statement M

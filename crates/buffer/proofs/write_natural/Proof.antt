@@ -5,9 +5,9 @@ use Prim.Native.Nat.{ℕ, ◌/◌, ◌%◌, ◌+◌}
 use native.Mathlib.Omega.{arith}
 use borrow.Author.Rules.{rules}
 use lib.ListN.{length}
-use Rattle.buffer.specs.Decimal.{showNatural}
+use Rattle.buffer.specs.Decimal.{show_natural}
 use Rattle.buffer.specs.Code.{halves}
-use Rattle.buffer.proofs.Halves.{show-halves}
+use Rattle.buffer.proofs.Halves.{show_halves}
 use Rattle.buffer.proofs.Put.{then, kept, both}
 use Rattle.buffer.proofs.write_natural.Statement.{statement}
 use Rattle.buffer.proofs.write_natural.Tie as tie
@@ -20,11 +20,11 @@ module _ (c : tie.Else1) where
   abbrev high : ℕ
   high = v / 100000000
 
-  last : showNatural v ≡ showNatural high ++ halves 3 (v % 100000000)
-  last = show-halves 3 v c.if1.false
+  last : show_natural v ≡ show_natural high ++ halves 3 (v % 100000000)
+  last = show_halves 3 v c.if1.false
 
-  lasts : length (showNatural v) ≡ length (showNatural high) + length (halves 3 (v % 100000000))
-  lasts = both (showNatural high) (halves 3 (v % 100000000)) last
+  lasts : length (show_natural v) ≡ length (show_natural high) + length (halves 3 (v % 100000000))
+  lasts = both (show_natural high) (halves 3 (v % 100000000)) last
 
 module _ (c : tie.Else2) where
   abbrev top : ℕ
@@ -33,11 +33,11 @@ module _ (c : tie.Else2) where
   abbrev mid : ℕ
   mid = high c.before % 100000000
 
-  next : showNatural (high c.before) ≡ showNatural top ++ halves 3 mid
-  next = show-halves 3 (high c.before) c.if2.false
+  next : show_natural (high c.before) ≡ show_natural top ++ halves 3 mid
+  next = show_halves 3 (high c.before) c.if2.false
 
-  nexts : length (showNatural (high c.before)) ≡ length (showNatural top) + length (halves 3 mid)
-  nexts = both (showNatural top) (halves 3 mid) next
+  nexts : length (show_natural (high c.before)) ≡ length (show_natural top) + length (halves 3 mid)
+  nexts = both (show_natural top) (halves 3 mid) next
 
 write-to-eight-requires : tie.Need-write-to-eight-requires
 write-to-eight-requires c κs = search rules

@@ -5,8 +5,8 @@ use lib.ListN.{length, length-set}
 use lib.IntN.{nat_abs}
 use borrow.Author.Rules.{rules}
 use Rattle.word.proofs.Fits.{back}
-use Rattle.buffer.specs.Decimal.{showNatural, showNumber}
-use Rattle.buffer.proofs.Written.{show-minus, show-plus}
+use Rattle.buffer.specs.Decimal.{show_natural, show_number}
+use Rattle.buffer.proofs.Written.{show_minus, show_plus}
 use Rattle.buffer.proofs.Put.{then, one, kept}
 use Rattle.buffer.proofs.write_number.Statement.{statement}
 use Rattle.buffer.proofs.write_number.Tie as tie
@@ -15,15 +15,15 @@ value_of : (c : tie.After-size) → c.size.result ≡ nat_abs c.before.before.ar
 value_of c = simp (back, c.before.before.ranges.z) at c.size.ensures
 
 -- what is to be written, by the sign
-less : (c : tie.Then1) → showNumber c.before.before.before.args.z ≡ 45 ∷ showNatural c.before.size.result
+less : (c : tie.Then1) → show_number c.before.before.before.args.z ≡ 45 ∷ show_natural c.before.size.result
 less c =
     let s = c.before.before.before in
-    rw (value_of c.before) (show-minus s.args.z (simp (back, s.ranges.z) at c.if1.true))
+    rw (value_of c.before) (show_minus s.args.z (simp (back, s.ranges.z) at c.if1.true))
 
-more : (c : tie.Else1) → showNumber c.before.before.before.args.z ≡ showNatural c.before.size.result
+more : (c : tie.Else1) → show_number c.before.before.before.args.z ≡ show_natural c.before.size.result
 more c =
     let s = c.before.before.before in
-    rw (value_of c.before) (show-plus s.args.z (simp (back, s.ranges.z) at c.if1.false))
+    rw (value_of c.before) (show_plus s.args.z (simp (back, s.ranges.z) at c.if1.false))
 
 size-requires : tie.Need-size-requires
 size-requires c κs = search rules

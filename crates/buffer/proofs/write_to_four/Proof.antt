@@ -2,9 +2,9 @@
 use native.Mathlib.Omega.{arith}
 use borrow.Author.Rules.{rules}
 use Prim.Native.Nat.{◌/◌, ◌%◌}
-use Rattle.buffer.specs.Decimal.{showNatural}
+use Rattle.buffer.specs.Decimal.{show_natural}
 use Rattle.buffer.specs.Code.{halves}
-use Rattle.buffer.proofs.Halves.{show-halves}
+use Rattle.buffer.proofs.Halves.{show_halves}
 use Rattle.buffer.proofs.Put.{then, kept, both}
 use Rattle.buffer.proofs.write_to_four.Statement.{statement}
 use Rattle.buffer.proofs.write_to_four.Tie as tie
@@ -23,7 +23,7 @@ write-to-two-requires-2 c κs =
     let i = c.before in
     let s = i.before.before in
     let v = s.args.v in
-    (omega arith, omega (arith, both (showNatural (v / 100)) (halves 1 (v % 100)) (show-halves 1 v i.if1.false)))
+    (omega arith, omega (arith, both (show_natural (v / 100)) (halves 1 (v % 100)) (show_halves 1 v i.if1.false)))
 
 write-two-requires : tie.Need-write-two-requires
 write-two-requires c κs =
@@ -32,7 +32,7 @@ write-two-requires c κs =
     let s = i.before.before in
     let v = s.args.v in
     let w = first.write-to-two2.ensures in
-    (omega arith, omega (arith, both (showNatural (v / 100)) (halves 1 (v % 100)) (show-halves 1 v i.if1.false), w.after, kept w))
+    (omega arith, omega (arith, both (show_natural (v / 100)) (halves 1 (v % 100)) (show_halves 1 v i.if1.false), w.after, kept w))
 
 same-length-2 : tie.Need-same-length-2
 same-length-2 c = search rules
@@ -42,7 +42,7 @@ returns-2 c =
     let second = c.before.before in
     let first = second.before.before.before.before in
     let i = first.before.before in
-    rw (show-halves 1 i.before.before.args.v i.if1.false) (then first.write-to-two2.ensures second.write_two.ensures)
+    rw (show_halves 1 i.before.before.args.v i.if1.false) (then first.write-to-two2.ensures second.write_two.ensures)
 
 pub write-to-four-spec : {M : Type 1} → statement M
 write-to-four-spec =

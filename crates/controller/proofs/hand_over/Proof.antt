@@ -5,14 +5,14 @@ use native.Mathlib.Omega.{arith}
 use borrow.Author.Tests.{lt-ltb, le-ltb}
 use lib.ListN.{length}
 use borrow.Author.Rules.{rules}
-use Rattle.word.proofs.Fits.{back, sfits-mag}
-use Rattle.controller.specs.Record.{record-room}
-use Rattle.controller.proofs.Call.{record-front}
+use Rattle.word.proofs.Fits.{back, sfits_mag}
+use Rattle.controller.specs.Record.{record_room}
+use Rattle.controller.proofs.Call.{record_front}
 use Rattle.controller.proofs.hand_over.Statement.{statement}
 use Rattle.controller.proofs.hand_over.Tie as tie
 
 returns : tie.Need-returns
-returns c = rw (lt-ltb (length c.before.before.args.out.now) record-room (omega arith)) (refl, refl)
+returns c = rw (lt-ltb (length c.before.before.args.out.now) record_room (omega arith)) (refl, refl)
 
 record-requires : tie.Need-record-requires
 record-requires c κs = search rules
@@ -35,9 +35,9 @@ returns-2 c =
     let a = p.before.before.before in
     let n : length a.«record».result ≡ 8 = search rules in
     let out = a.before.before.before.args.out.now in
-    let room : record-room ≤ length out = omega (arith, a.before.if1.false) in
-    rw (le-ltb (length out) record-room room, ← a.«record».ensures)
-    (back (sfits-mag _ c.result.given), record-front out a.«record».result n room p.put-words.ensures)
+    let room : record_room ≤ length out = omega (arith, a.before.if1.false) in
+    rw (le-ltb (length out) record_room room, ← a.«record».ensures)
+    (back (sfits_mag _ c.result.given), record_front out a.«record».result n room p.put-words.ensures)
 
 pub hand-over-spec : {M : Type 1} → statement M
 hand-over-spec =

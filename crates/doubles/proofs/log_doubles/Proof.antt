@@ -1,16 +1,16 @@
 -- `doubles::log_doubles` meets its contract.
 use Rattle.std.proofs.Common.{◌≡◌, ◌^◌, ◌<◌, ℤ, pos, nat_abs, sym, ap, ◌∙◌, subst, ap₂, rules}
 use lib.Ieee.{of_bits}
-use Rattle.word.proofs.Fits.{back, sfits-mag}
-use Rattle.logarithm.specs.Answer.{logAnswer}
-use Rattle.doubles.specs.Units.{doubleOf}
+use Rattle.word.proofs.Fits.{back, sfits_mag}
+use Rattle.logarithm.specs.Answer.{log_answer}
+use Rattle.doubles.specs.Units.{double_of}
 use Rattle.doubles.specs.Record.{zeros}
-use Rattle.doubles.proofs.Kept.{log-small, answered-is, refused-is, given}
+use Rattle.doubles.proofs.Kept.{log_small, answered_is, refused_is, given}
 use Rattle.doubles.proofs.log_doubles.Statement.{statement}
 use Rattle.doubles.proofs.log_doubles.Tie as tie
 
 -- what LOG answered
-logged : (c : tie.After-log) → let s = c.before in logAnswer s.args.n s.args.p.x s.args.p.y ≡ c.log.result
+logged : (c : tie.After-log) → let s = c.before in log_answer s.args.n s.args.p.x s.args.p.y ≡ c.log.result
 logged c = sym (rw (back c.before.ranges.n) at c.log.ensures.0)
 
 returns : tie.Need-returns
@@ -20,10 +20,10 @@ returns c =
     let l = a.before.before in
     let s = l.before in
     let v = a.answer.given.0.0.value in
-    let x = c.before.write-part.ensures ∙ ap (doubleOf 48) (back (sfits-mag v.x t.before.struct_told.given.0.1)) in
-    let y = c.write-part2.ensures ∙ ap (doubleOf 48) (back (sfits-mag v.y t.struct-told2.given.1.0.1)) in
+    let x = c.before.write-part.ensures ∙ ap (double_of 48) (back (sfits_mag v.x t.before.struct_told.given.0.1)) in
+    let y = c.write-part2.ensures ∙ ap (double_of 48) (back (sfits_mag v.y t.struct-told2.given.1.0.1)) in
     given s.args.n s.args.p.x s.args.p.y
-    (ap₂ (λ p q. record { refusal = pos 0; parts = record { x = p; y = q } }) x y ∙ sym (answered-is 48 (logged l ∙ a.answer.given.1)))
+    (ap₂ (λ p q. record { refusal = pos 0; parts = record { x = p; y = q } }) x y ∙ sym (answered_is 48 (logged l ∙ a.answer.given.1)))
 
 returns-2 : tie.Need-returns-2
 unfolding of_bits
@@ -32,8 +32,8 @@ returns-2 c =
     let l = a.before.before in
     let s = l.before in
     given s.args.n s.args.p.x s.args.p.y
-    (ap (λ k. record { refusal = k; parts = zeros }) (back (sfits-mag c.number.result c.number.type-inv) ∙ c.number.ensures)
-    ∙ sym (refused-is 48 (logged l ∙ a.answer2.given.1)))
+    (ap (λ k. record { refusal = k; parts = zeros }) (back (sfits_mag c.number.result c.number.type-inv) ∙ c.number.ensures)
+    ∙ sym (refused_is 48 (logged l ∙ a.answer2.given.1)))
 
 log-requires : tie.Need-log-requires
 log-requires c κs = search rules
@@ -47,8 +47,8 @@ write-part-requires c κs =
     let l = a.before.before in
     let s = l.before in
     let v = a.answer.given.0.0.value in
-    subst (λ z. nat_abs z < 2 ^ 49) (sym (back (sfits-mag v.x c.before.struct_told.given.0.1)))
-    (log-small s.args.n s.args.p.x s.args.p.y (logged l ∙ a.answer.given.1)).x
+    subst (λ z. nat_abs z < 2 ^ 49) (sym (back (sfits_mag v.x c.before.struct_told.given.0.1)))
+    (log_small s.args.n s.args.p.x s.args.p.y (logged l ∙ a.answer.given.1)).x
 
 write-part-requires-2 : tie.Need-write-part-requires-2
 write-part-requires-2 c κs =
@@ -56,8 +56,8 @@ write-part-requires-2 c κs =
     let l = a.before.before in
     let s = l.before in
     let v = a.answer.given.0.0.value in
-    subst (λ z. nat_abs z < 2 ^ 49) (sym (back (sfits-mag v.y c.before.struct-told2.given.1.0.1)))
-    (log-small s.args.n s.args.p.x s.args.p.y (logged l ∙ a.answer.given.1)).y
+    subst (λ z. nat_abs z < 2 ^ 49) (sym (back (sfits_mag v.y c.before.struct-told2.given.1.0.1)))
+    (log_small s.args.n s.args.p.x s.args.p.y (logged l ∙ a.answer.given.1)).y
 
 enum-known-answer-2 : tie.Need-enum-known-answer-2
 enum-known-answer-2 c = search rules

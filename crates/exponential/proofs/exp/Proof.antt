@@ -4,19 +4,19 @@ use Prim.Native.Nat.{◌-◌}
 use native.Mathlib.Omega.{arith}
 use lib.IntN.{pos, nat_abs}
 use borrow.Author.Rules.{rules}
-use Rattle.word.proofs.Fits.{back, sfits-mag}
+use Rattle.word.proofs.Fits.{back, sfits_mag}
 use Rattle.point.specs.declared.Point.{Point}
 use Rattle.point.specs.Point.{gauss}
-use Rattle.point.proofs.InLimits.{steps-cast, parts-say}
+use Rattle.point.proofs.InLimits.{steps_cast, parts_say}
 use Rattle.answer.specs.declared.Answer.TheVariants.{Answered}
 use Rattle.table_numbers.specs.Numbers48.{constants48}
-use Rattle.table_numbers.specs.Table.{stepTable}
+use Rattle.table_numbers.specs.Table.{step_table}
 use Rattle.iteration.specs.declared.State.{State}
 use Rattle.exponential.specs.declared.reduction.Reduced.{Reduced}
-use Rattle.exponential.specs.Answer.{errorBound, figuresFrom, answer}
+use Rattle.exponential.specs.Answer.{error_bound_of, figures_from, answer}
 use Rattle.exponential.specs.Code.{Accepted, Right}
-use Rattle.exponential.proofs.Given.{reach-says}
-use Rattle.exponential.proofs.Fits.{ReducedFits, fits-48}
+use Rattle.exponential.proofs.Given.{reach_says}
+use Rattle.exponential.proofs.Fits.{ReducedFits, fits_48}
 use Rattle.exponential.proofs.Close.{answered, settled}
 use Rattle.exponential.proofs.exp.Statement.{statement}
 use Rattle.exponential.proofs.exp.Tie as tie
@@ -42,20 +42,20 @@ enum_told c = search rules
 cast-steps : tie.Need-overflow-cast-steps
 cast-steps c =
     let s = c.before.before.before in
-    rw (back s.ranges.n) (steps-cast 48 1 s.args.n (omega arith) (accepted c).steps)
+    rw (back s.ranges.n) (steps_cast 48 1 s.args.n (omega arith) (accepted c).steps)
 
 reduce-requires : tie.Need-reduce-requires
 reduce-requires c κs =
     let a = c.before.before.before.args in
     let p = accepted c in
-    (reach-says 48 (gauss a.exponent) p.reach, parts-say 48 (gauss a.start) p.start)
+    (reach_says 48 (gauss a.exponent) p.reach, parts_say 48 (gauss a.start) p.start)
 
 -- ---- what the steps are given
 abbrev start : tie.After-reduce → tie.Start
 start c = c.before.before.before.before
 
-fits : (c : tie.After-reduce) → ReducedFits 48 stepTable (nat_abs (start c).args.n) c.reduce.result
-fits c = fits-48 (accepted c.before) c.reduce.ensures
+fits : (c : tie.After-reduce) → ReducedFits 48 step_table (nat_abs (start c).args.n) c.reduce.result
+fits c = fits_48 (accepted c.before) c.reduce.ensures
 
 run-requires : tie.Need-run-requires
 run-requires c κs = let r = c.before.before in simp (back, (start r).ranges.n) (fits r).steps
@@ -91,20 +91,20 @@ returns-2 c =
     let state = rw all at (simp (back, (start r).fits.n) at end.run.ensures) in
     let value = ap (λ (x : State). x.point) state in
     let left = ap (λ (x : State). x.sum) state in
-    let x = back (sfits-mag end.run.result.point.x t1.struct_told.given.0.1) ∙ ap (λ (p : Point). p.x) value in
-    let y = back (sfits-mag end.run.result.point.y t2.struct-told2.given.1.0.1) ∙ ap (λ (p : Point). p.y) value in
-    let left-x = back (sfits-mag end.run.result.sum.x t3.struct-told3.given.0.1) ∙ ap (λ (p : Point). p.x) left in
-    let left-y = back (sfits-mag end.run.result.sum.y t4.struct-told4.given.1.0.1) ∙ ap (λ (p : Point). p.y) left in
-    let bound : _ ≡ errorBound n (gauss r.reduce.result.start) =
-    back (sfits-mag c.error-bound.result c.error-bound.type-inv) ∙ (simp (back, (start r).fits.n) at c.error-bound.ensures) in
+    let x = back (sfits_mag end.run.result.point.x t1.struct_told.given.0.1) ∙ ap (λ (p : Point). p.x) value in
+    let y = back (sfits_mag end.run.result.point.y t2.struct-told2.given.1.0.1) ∙ ap (λ (p : Point). p.y) value in
+    let left_x = back (sfits_mag end.run.result.sum.x t3.struct-told3.given.0.1) ∙ ap (λ (p : Point). p.x) left in
+    let left_y = back (sfits_mag end.run.result.sum.y t4.struct-told4.given.1.0.1) ∙ ap (λ (p : Point). p.y) left in
+    let bound : _ ≡ error_bound_of n (gauss r.reduce.result.start) =
+    back (sfits_mag c.error-bound.result c.error-bound.type-inv) ∙ (simp (back, (start r).fits.n) at c.error-bound.ensures) in
     settled a.n a.exponent.x a.exponent.y a.start.x a.start.y
-    (answered 48 stepTable constants48 a.n (gauss a.exponent) (gauss a.start) (accepted r.before)
-    ∙ (ap (λ (g : Reduced). Answered (figuresFrom 48 stepTable n g)) (sym r.reduce.ensures) ∙ sym (λ i. Answered (record {
+    (answered 48 step_table constants48 a.n (gauss a.exponent) (gauss a.start) (accepted r.before)
+    ∙ (ap (λ (g : Reduced). Answered (figures_from 48 step_table n g)) (sym r.reduce.ensures) ∙ sym (λ i. Answered (record {
       value = record { x = x i; y = y i };
       binary_exponent = back (fits r).doublings i;
       quadrant = pos 0;
       error_bound = bound i;
-      remainder = record { x = left-x i; y = left-y i };
+      remainder = record { x = left_x i; y = left_y i };
     }))))
 
 error-bound-requires : tie.Need-error-bound-requires

@@ -5,7 +5,7 @@ use lib.IntN.{◌+ℤ◌, ◌-ℤ◌}
 use lib.Signed.{le_z}
 use Rattle.word.proofs.Fits.{back}
 use Rattle.iteration.proofs.Fits.{back_fits}
-use Rattle.iteration.proofs.Digits.{back_low, back-high, back-mid, above-one, below_one}
+use Rattle.iteration.proofs.Digits.{back_low, back_high, back_mid, above_one, below_one}
 use Rattle.iteration.proofs.cut_back.Statement.{statement}
 use Rattle.iteration.proofs.cut_back.Tie as tie
 
@@ -22,7 +22,7 @@ returns c =
     let f = s.ranges in
     let a = s.args in
     let h : le_z (a.one +ℤ a.t) a.x ≡ true = simp (back, f.t, f.one, f.x, (back_fits s.requires).above) at c.if1.true in
-    sym (back-high a.t (a.x -ℤ a.one) s.requires.least (sym (above-one a.t a.one a.x) ∙ h))
+    sym (back_high a.t (a.x -ℤ a.one) s.requires.least (sym (above_one a.t a.one a.x) ∙ h))
 
 returns-3 : tie.Need-returns-3
 returns-3 c =
@@ -31,7 +31,7 @@ returns-3 c =
     let a = s.args in
     let h : le_z (a.one +ℤ a.t) a.x ≡ false = simp (back, f.t, f.one, f.x, (back_fits s.requires).above) at c.before.if1.false in
     let g : le_z a.x (a.one -ℤ a.t) ≡ false = simp (back, f.t, f.one, f.x, (back_fits s.requires).below) at c.if2.false in
-    sym (back-mid a.t (a.x -ℤ a.one) (sym (below_one a.t a.one a.x) ∙ g) (sym (above-one a.t a.one a.x) ∙ h))
+    sym (back_mid a.t (a.x -ℤ a.one) (sym (below_one a.t a.one a.x) ∙ g) (sym (above_one a.t a.one a.x) ∙ h))
 
 returns-2 : tie.Need-returns-2
 returns-2 c =

@@ -9,9 +9,9 @@ use mir.Syntax.{w64}
 use mir.Val.{SFits, to_z, of_z}
 use borrow.Author.Rules.{rules}
 use Rattle.algebra.specs.Gauss.{two}
-use Rattle.word.proofs.Fits.{back, sfits-mag}
-use Rattle.iteration.specs.Select.{cut, exp-select}
-use Rattle.iteration.proofs.Fits.{sixteenth-word, times-fits, low-x-is, high-x-is, low-y-is}
+use Rattle.word.proofs.Fits.{back, sfits_mag}
+use Rattle.iteration.specs.Select.{cut, exp_select}
+use Rattle.iteration.proofs.Fits.{sixteenth_word, times_fits, low_x_is, high_x_is, low_y_is}
 use Rattle.iteration.proofs.exp_digit.Statement.{statement}
 use Rattle.iteration.proofs.exp_digit.Tie as tie
 
@@ -20,32 +20,32 @@ module _ (n : ℕ) (h : n ≤ 40) where
   abbrev unit : ℤ
   unit = to_z w64 (17592186044416 / 2 ^ n)
 
-  unit-is : unit ≡ two (48 - 4 - n)
-  unit-is = sixteenth-word 48 n (omega arith) (omega arith)
+  unit_is : unit ≡ two (48 - 4 - n)
+  unit_is = sixteenth_word 48 n (omega arith) (omega arith)
 
   module _ (c : ℤ) (least : T (le_z (negsuc 12) c)) (most : T (le_z c (pos 13))) where
     fits : SFits w64 (c *ℤ unit)
-    fits = rw unit-is (times-fits 48 n (omega arith) (omega arith) c (48 - 4 - n)
+    fits = rw unit_is (times_fits 48 n (omega arith) (omega arith) c (48 - 4 - n)
         (record { lo = record { le = least }; hi = record { le = most } }) (omega arith))
 
     held : {z : ℤ} → c *ℤ two (48 - 4 - n) ≡ z → to_z w64 (of_z w64 (c *ℤ unit)) ≡ z
-    held e = back fits ∙ (ap (λ u. c *ℤ u) unit-is ∙ e)
+    held e = back fits ∙ (ap (λ u. c *ℤ u) unit_is ∙ e)
 
 -- ---- the contract
 returns : tie.Need-returns
-unfolding exp-select
+unfolding exp_select
 returns c =
     let b = c.before in
     let s = b.before.before.before in
     let n = s.args.n in
-    let x = back (sfits-mag s.args.sum.x b.before.before.struct_told.given.0.1) in
-    let y = back (sfits-mag s.args.sum.y b.before.struct-told2.given.1.0.1) in
-    let low_x = held n s.requires (negsuc 7) tt tt (low-x-is 48 n (omega arith) (omega arith)) in
-    let high-x = held n s.requires (pos 6) tt tt (high-x-is 48 n (omega arith) (omega arith)) in
-    let low-y = held n s.requires (negsuc 11) tt tt (low-y-is 48 n (omega arith) (omega arith)) in
-    let high-y = held n s.requires (pos 13) tt tt refl in
-    let dx = back (sfits-mag b.cut.result b.cut.type-inv) ∙ (b.cut.ensures ∙ (λ i. cut (low_x i) (high-x i) (x i))) in
-    let dy = back (sfits-mag c.cut2.result c.cut2.type-inv) ∙ (c.cut2.ensures ∙ (λ i. cut (low-y i) (high-y i) (y i))) in
+    let x = back (sfits_mag s.args.sum.x b.before.before.struct_told.given.0.1) in
+    let y = back (sfits_mag s.args.sum.y b.before.struct-told2.given.1.0.1) in
+    let low_x = held n s.requires (negsuc 7) tt tt (low_x_is 48 n (omega arith) (omega arith)) in
+    let high_x = held n s.requires (pos 6) tt tt (high_x_is 48 n (omega arith) (omega arith)) in
+    let low_y = held n s.requires (negsuc 11) tt tt (low_y_is 48 n (omega arith) (omega arith)) in
+    let high_y = held n s.requires (pos 13) tt tt refl in
+    let dx = back (sfits_mag b.cut.result b.cut.type-inv) ∙ (b.cut.ensures ∙ (λ i. cut (low_x i) (high_x i) (x i))) in
+    let dy = back (sfits_mag c.cut2.result c.cut2.type-inv) ∙ (c.cut2.ensures ∙ (λ i. cut (low_y i) (high_y i) (y i))) in
     λ i. record { dx = dx i; dy = dy i }
 
 -- ---- the needs

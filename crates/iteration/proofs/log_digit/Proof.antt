@@ -8,14 +8,14 @@ use mir.Val.{to_z}
 use borrow.Author.Rules.{rules}
 use Rattle.algebra.specs.Gauss.{two}
 use Rattle.algebra.specs.Size.{Size}
-use Rattle.word.proofs.Fits.{back, sfits-mag}
-use Rattle.iteration.specs.Select.{half, cut-back, log-select}
-use Rattle.iteration.proofs.Fits.{half-word, around}
+use Rattle.word.proofs.Fits.{back, sfits_mag}
+use Rattle.iteration.specs.Select.{half, cut_back, log_select}
+use Rattle.iteration.proofs.Fits.{half_word, around}
 use Rattle.iteration.proofs.log_digit.Statement.{statement}
 use Rattle.iteration.proofs.log_digit.Tie as tie
 
 halved : (n : ℕ) → n ≤ 40 → to_z w64 (140737488355328 / 2 ^ n) ≡ half 48 n
-halved n h = half-word 48 n (omega arith) (omega arith)
+halved n h = half_word 48 n (omega arith) (omega arith)
 
 -- the parts of one
 one : Size (two 48) (two 48)
@@ -39,19 +39,19 @@ cut-back-requires-2 c κs = let s = c.before.before.before.before.before in
     rw (halved s.args.n s.requires) (around 48 s.args.n (omega arith) nought)
 
 returns : tie.Need-returns
-unfolding log-select
+unfolding log_select
 returns c =
     let b = c.before in
     let t4 = b.before in
     let t3 = t4.before in
     let s = t3.before.before.before in
     let h = halved s.args.n s.requires in
-    let x = back (sfits-mag s.args.v.x t3.struct-told3.given.0.1) in
-    let y = back (sfits-mag s.args.v.y t4.struct-told4.given.1.0.1) in
-    let dx = back (sfits-mag b.cut-back.result b.cut-back.type-inv) ∙
-    (b.cut-back.ensures ∙ ap₂ (λ t v. cut-back t (v -ℤ two 48)) h x) in
-    let dy = back (sfits-mag c.cut-back2.result c.cut-back2.type-inv) ∙
-    (c.cut-back2.ensures ∙ ap₂ cut-back h (ap (λ v. v -ℤ pos 0) y ∙ +ℤ_idr s.args.v.y)) in
+    let x = back (sfits_mag s.args.v.x t3.struct-told3.given.0.1) in
+    let y = back (sfits_mag s.args.v.y t4.struct-told4.given.1.0.1) in
+    let dx = back (sfits_mag b.cut_back.result b.cut_back.type-inv) ∙
+    (b.cut_back.ensures ∙ ap₂ (λ t v. cut_back t (v -ℤ two 48)) h x) in
+    let dy = back (sfits_mag c.cut-back2.result c.cut-back2.type-inv) ∙
+    (c.cut-back2.ensures ∙ ap₂ cut_back h (ap (λ v. v -ℤ pos 0) y ∙ +ℤ_idr s.args.v.y)) in
     λ i. record { dx = dx i; dy = dy i }
 
 pub log-digit-spec : {M : Type 1} → statement M

@@ -18,11 +18,11 @@ log-digit-requires c κs = search rules
 
 returns : tie.Need-returns
 unfolding select
-returns c = rw c.before.enum_told.given.1 c.exp-digit.ensures
+returns c = rw c.before.enum_told.given.1 c.exp_digit.ensures
 
 returns-2 : tie.Need-returns-2
 unfolding select
-returns-2 c = rw c.before.enum-told2.given.1 c.log-digit.ensures
+returns-2 c = rw c.before.enum-told2.given.1 c.log_digit.ensures
 
 pub select-spec : {M : Type 1} → statement M
 select-spec =

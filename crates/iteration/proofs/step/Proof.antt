@@ -2,9 +2,9 @@
 use mathlib.Core.Path.{◌≡◌, sym, ◌∙◌, ap, subst}
 use borrow.Author.Rules.{rules}
 use Rattle.algebra.specs.Gauss.{◌-ᵍ◌}
-use Rattle.word.proofs.Fits.{back, sfits-mag}
+use Rattle.word.proofs.Fits.{back, sfits_mag}
 use Rattle.point.specs.Point.{gauss, point}
-use Rattle.table_numbers.specs.Listed.{byDigit}
+use Rattle.table_numbers.specs.Listed.{by_digit}
 use Rattle.table_numbers.specs.Rows.{number, none}
 use Rattle.iteration.specs.Code.{LessPre}
 use Rattle.iteration.proofs.step.Statement.{statement}
@@ -12,11 +12,11 @@ use Rattle.iteration.proofs.step.Tie as tie
 
 -- the entry that was picked
 picked : (c : tie.After-pick) → let a = c.before.before.before.before.before.args in
-    c.pick.result ≡ byDigit a.row none a.d.dy
+    c.pick.result ≡ by_digit a.row none a.d.dy
 picked c =
     let t = c.before.before in
     let a = t.before.before.before.args in
-    c.pick.ensures ∙ ap (byDigit a.row none) (back (sfits-mag a.d.dy t.struct_told.given.1.0.1))
+    c.pick.ensures ∙ ap (by_digit a.row none) (back (sfits_mag a.d.dy t.struct_told.given.1.0.1))
 
 step-requires : tie.Need-step-requires
 step-requires c κs = search rules

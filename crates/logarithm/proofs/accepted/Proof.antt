@@ -9,19 +9,19 @@ use mir.Val.{SFits, to_z, of_z}
 use Rattle.algebra.specs.Gauss.{◌-ᵍ◌, two}
 use Rattle.algebra.specs.Order.{◌⩽◌}
 use Rattle.algebra.specs.Size.{Parts}
-use Rattle.word.proofs.Fits.{back, sfits-mag, word-pos}
+use Rattle.word.proofs.Fits.{back, sfits_mag, word_pos}
 use Rattle.point.specs.declared.Point.{Point}
 use Rattle.point.specs.Point.{gauss, point, one}
-use Rattle.table_numbers.specs.Table.{stepTable, reciprocalTable}
-use Rattle.tables.proofs.Promises.{step-promise, reciprocal-promise}
+use Rattle.table_numbers.specs.Table.{step_table, reciprocal_table}
+use Rattle.tables.proofs.Promises.{step_promise, reciprocal_promise}
 use Rattle.iteration.specs.declared.State.{State}
 use Rattle.iteration.specs.declared.Mode.TheVariants.{Log}
 use Rattle.iteration.specs.Run.{run, Fits}
 use Rattle.logarithm.specs.declared.reduction.Turn.{Turn}
-use Rattle.logarithm.specs.Reduction.{turned, bits, bit_length, binary-exponent}
+use Rattle.logarithm.specs.Reduction.{turned, bits, bit_length, binary_exponent_of}
 use Rattle.logarithm.specs.Answer.{begun, ended}
 use Rattle.logarithm.specs.Code.{ScalePre, BoundPre, bound_at}
-use Rattle.logarithm.proofs.Fits.{scale-length, exponent-fits, turn-ok, turned-pos, scale_ok, bound-ok, bound-made, run_ok}
+use Rattle.logarithm.proofs.Fits.{scale_length, exponent_fits, turn_ok, turned_pos, scale_ok, bound_ok, bound_made, run_ok}
 use Rattle.logarithm.proofs.accepted.Statement.{statement}
 use Rattle.logarithm.proofs.accepted.Tie as tie
 
@@ -29,29 +29,29 @@ use Rattle.logarithm.proofs.accepted.Tie as tie
 abbrev start : tie.After-struct-told2 → tie.Start
 start c = c.before.before.before.before
 
-turned-is : (c : tie.After-struct-told2) → c.before.before.before.turned.result.point ≡ point (turned (gauss (start c).args.p))
-turned-is c = ap (λ (t : Turn). t.point) c.before.before.before.turned.ensures
+turned_is : (c : tie.After-struct-told2) → c.before.before.before.turned.result.point ≡ point (turned (gauss (start c).args.p))
+turned_is c = ap (λ (t : Turn). t.point) c.before.before.before.turned.ensures
 
-x-is : (c : tie.After-struct-told2) →
+x_is : (c : tie.After-struct-told2) →
     to_z w64 (of_z w64 c.before.before.before.turned.result.point.x) ≡ (turned (gauss (start c).args.p)).re
-x-is c = back (sfits-mag c.before.before.before.turned.result.point.x c.struct-told2.given.0.1)
-    ∙ ap (λ (w : Point). w.x) (turned-is c)
+x_is c = back (sfits_mag c.before.before.before.turned.result.point.x c.struct-told2.given.0.1)
+    ∙ ap (λ (w : Point). w.x) (turned_is c)
 
-length-is : (c : tie.After-bit-length) → c.bit_length.result ≡ bits (nat_abs (turned (gauss (start c.before).args.p)).re)
-length-is c = c.bit_length.ensures ∙ ap (λ x. bits (nat_abs x)) (x-is c.before)
+length_is : (c : tie.After-bit-length) → c.bit_length.result ≡ bits (nat_abs (turned (gauss (start c.before).args.p)).re)
+length_is c = c.bit_length.ensures ∙ ap (λ x. bits (nat_abs x)) (x_is c.before)
 
 scalable : (c : tie.After-bit-length) → ScalePre 48 c.before.before.before.before.turned.result.point c.bit_length.result
-scalable c = subst₂ (ScalePre 48) (sym (turned-is c.before)) (sym (length-is c)) (scale_ok (lit≤ tt) (start c.before).requires)
+scalable c = subst₂ (ScalePre 48) (sym (turned_is c.before)) (sym (length_is c)) (scale_ok (lit≤ tt) (start c.before).requires)
 
-begun-is : (c : tie.After-begun) → c.begun.result ≡ begun 48 reciprocalTable (turned (gauss (start c.before.before).args.p))
-begun-is c = c.begun.ensures ∙ ap (λ w. begun 48 reciprocalTable (gauss w)) (turned-is c.before.before)
+begun_is : (c : tie.After-begun) → c.begun.result ≡ begun 48 reciprocal_table (turned (gauss (start c.before.before).args.p))
+begun_is c = c.begun.ensures ∙ ap (λ w. begun 48 reciprocal_table (gauss w)) (turned_is c.before.before)
 
 ran : (c : tie.After-run) → let s = (start c.before.before.before).args in
-    c.run.result ≡ ended 48 stepTable reciprocalTable s.n (turned (gauss s.p))
+    c.run.result ≡ ended 48 step_table reciprocal_table s.n (turned (gauss s.p))
 ran c =
     let n = (start c.before.before.before).args.n in
-    let steps : c.run.result ≡ run 48 stepTable Log 2 (n - 2) c.before.begun.result = c.run.ensures in
-    steps ∙ ap (run 48 stepTable Log 2 (n - 2)) (begun-is c.before)
+    let steps : c.run.result ≡ run 48 step_table Log 2 (n - 2) c.before.begun.result = c.run.ensures in
+    steps ∙ ap (run 48 step_table Log 2 (n - 2)) (begun_is c.before)
 
 -- the end of the steps, once the parts of the sum are read
 abbrev last : tie.After-struct-told4 → tie.After-run
@@ -60,15 +60,15 @@ last c = c.before.before.before.before
 abbrev lengthened : tie.After-less-one → tie.After-bit-length
 lengthened c = (last c.before).before.before
 
-word-is : (c : tie.After-less-one) → to_z w64 (lengthened c).bit_length.result ≡ pos (lengthened c).bit_length.result
-word-is c = word-pos (lengthened c).bit_length.result (omega (arith, scale-length (scalable (lengthened c))))
+word_is : (c : tie.After-less-one) → to_z w64 (lengthened c).bit_length.result ≡ pos (lengthened c).bit_length.result
+word_is c = word_pos (lengthened c).bit_length.result (omega (arith, scale_length (scalable (lengthened c))))
 
-exponent-fit : (c : tie.After-less-one) → SFits w64 (to_z w64 (lengthened c).bit_length.result -ℤ pos 48)
-exponent-fit c = subst (λ b. SFits w64 (b -ℤ pos 48)) (sym (word-is c)) (exponent-fits (scalable (lengthened c)) (lit≤ tt))
+exponent_fit : (c : tie.After-less-one) → SFits w64 (to_z w64 (lengthened c).bit_length.result -ℤ pos 48)
+exponent_fit c = subst (λ b. SFits w64 (b -ℤ pos 48)) (sym (word_is c)) (exponent_fits (scalable (lengthened c)) (lit≤ tt))
 
 -- ---- the contract
 returns : tie.Need-returns
-unfolding binary-exponent bit_length
+unfolding binary_exponent_of bit_length
 returns c =
     let u = c.before in
     let t4 = u.before in
@@ -78,32 +78,32 @@ returns c =
     let s = start t in
     let n = s.args.n in
     let sum = ap (λ (e : State). e.sum) (ran r) in
-    let x = back (sfits-mag r.run.result.sum.x t4.before.struct-told3.given.0.1) ∙ ap (λ (p : Point). p.x) sum in
-    let y = back (sfits-mag r.run.result.sum.y t4.struct-told4.given.1.0.1) ∙ ap (λ (p : Point). p.y) sum in
-    let k = back (exponent-fit u) ∙ (ap (λ b. b -ℤ pos 48) (word-is u ∙ ap pos (length-is l))) in
-    let q = back (sfits-mag t.before.before.before.turned.result.quadrant t.before.struct_told.given.1.0.1)
+    let x = back (sfits_mag r.run.result.sum.x t4.before.struct-told3.given.0.1) ∙ ap (λ (p : Point). p.x) sum in
+    let y = back (sfits_mag r.run.result.sum.y t4.struct-told4.given.1.0.1) ∙ ap (λ (p : Point). p.y) sum in
+    let k = back (exponent_fit u) ∙ (ap (λ b. b -ℤ pos 48) (word_is u ∙ ap pos (length_is l))) in
+    let q = back (sfits_mag t.before.before.before.turned.result.quadrant t.before.struct_told.given.1.0.1)
     ∙ ap (λ (e : Turn). e.quadrant) t.before.before.before.turned.ensures in
     let bound : c.error-bound.result ≡ bound_at n (to_z w64 (of_z w64 t.before.before.before.turned.result.point.x))
     = c.error-bound.ensures in
-    let b = back (sfits-mag c.error-bound.result c.error-bound.type-inv) ∙ (bound ∙ (ap (bound_at n) (x-is t) ∙ bound-made (lit≤ tt) s.pre)) in
+    let b = back (sfits_mag c.error-bound.result c.error-bound.type-inv) ∙ (bound ∙ (ap (bound_at n) (x_is t) ∙ bound_made (lit≤ tt) s.pre)) in
     let left = u.less_one.ensures ∙ ap (λ (e : State). point (gauss e.point -ᵍ one 48)) (ran r) in
     λ i. record { value = record { x = x i; y = y i }; binary_exponent = k i; quadrant = q i; error_bound = b i; remainder = left i }
 
 -- ---- the needs
 turned-requires : tie.Need-turned-requires
-turned-requires c κs = turn-ok (lit≤ tt) c.requires (lit≤ tt)
+turned-requires c κs = turn_ok (lit≤ tt) c.requires (lit≤ tt)
 
 bit-length-requires : tie.Need-bit-length-requires
-bit-length-requires c κs = subst (λ x. pos 1 ⩽ x) (sym (x-is c)) (turned-pos (lit≤ tt) (start c).requires)
+bit-length-requires c κs = subst (λ x. pos 1 ⩽ x) (sym (x_is c)) (turned_pos (lit≤ tt) (start c).requires)
 
 begun-requires : tie.Need-begun-requires
 begun-requires c κs = scalable c
 
-fits : (s : tie.Start) → Fits 48 stepTable Log 2 s.args.n (begun 48 reciprocalTable (turned (gauss s.args.p)))
-fits s = run_ok (lit≤ tt) s.requires (lit≤ tt) stepTable reciprocalTable step-promise reciprocal-promise
+fits : (s : tie.Start) → Fits 48 step_table Log 2 s.args.n (begun 48 reciprocal_table (turned (gauss s.args.p)))
+fits s = run_ok (lit≤ tt) s.requires (lit≤ tt) step_table reciprocal_table step_promise reciprocal_promise
 
 run-requires : tie.Need-run-requires
-run-requires c κs = let s = start c.before.before in subst (Fits 48 stepTable Log 2 s.args.n) (sym (begun-is c)) (fits s)
+run-requires c κs = let s = start c.before.before in subst (Fits 48 step_table Log 2 s.args.n) (sym (begun_is c)) (fits s)
 
 less-one-requires : tie.Need-less-one-requires
 less-one-requires c κs =
@@ -112,14 +112,14 @@ less-one-requires c κs =
     subst (λ (e : State). Parts (gauss e.point) (two 61)) (sym (ran r)) ((fits s).small (s.args.n - 2) (omega arith)).point
 
 cast-binary-exponent : tie.Need-overflow-cast-binary-exponent
-cast-binary-exponent c = record { sfits = omega (arith, scale-length (scalable (lengthened c))) }
+cast-binary-exponent c = record { sfits = omega (arith, scale_length (scalable (lengthened c))) }
 
 sub-binary-exponent : tie.Need-overflow-sub-binary-exponent
-sub-binary-exponent c = exponent-fit c
+sub-binary-exponent c = exponent_fit c
 
 error-bound-requires : tie.Need-error-bound-requires
-error-bound-requires c κs = let t = (lengthened c).before in subst (BoundPre 48 (start t).args.n) (sym (x-is t))
-    (bound-ok (lit≤ tt) (start t).pre)
+error-bound-requires c κs = let t = (lengthened c).before in subst (BoundPre 48 (start t).args.n) (sym (x_is t))
+    (bound_ok (lit≤ tt) (start t).pre)
 
 pub accepted-spec : {M : Type 1} → statement M
 accepted-spec = tie.close (tie.spec turned-requires bit-length-requires begun-requires run-requires less-one-requires

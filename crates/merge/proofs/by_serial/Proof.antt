@@ -23,9 +23,9 @@ returns c =
 returns-2 : tie.Need-returns-2
 returns-2 c =
     let s = c.before.before.before.before in
-    let not-below : lt_z s.args.m s.args.n ≡ false = rw (back s.ranges.m, back s.ranges.n) at c.before.if1.false in
+    let not_below : lt_z s.args.m s.args.n ≡ false = rw (back s.ranges.m, back s.ranges.n) at c.before.if1.false in
     let above : lt_z s.args.n s.args.m ≡ true = rw (back s.ranges.m, back s.ranges.n) at c.if2.true in
-    rw (not-below, above, back s.ranges.n)
+    rw (not_below, above, back s.ranges.n)
 
 same-line-requires : tie.Need-same-line-requires
 same-line-requires c κs = search rules

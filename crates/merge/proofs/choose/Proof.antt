@@ -1,5 +1,5 @@
 -- `merge::choose` meets its contract: case by case.
-use Rattle.word.proofs.Fits.{back, sfits-mag}
+use Rattle.word.proofs.Fits.{back, sfits_mag}
 use Rattle.merge.specs.Merge.{choice}
 use borrow.Author.Rules.{rules}
 use Rattle.merge.proofs.choose.Statement.{statement}
@@ -90,7 +90,7 @@ returns-8 c = rw (c.before.before.enum-told7.given.1, c.enum-told10.given.1)
 
 returns-9 : tie.Need-returns-9
 unfolding choice
-returns-9 c = rw (c.before.before.before.enum-told7.given.1, c.before.g.given.1, back (sfits-mag _ c.known-told.given.0.1))
+returns-9 c = rw (c.before.before.before.enum-told7.given.1, c.before.g.given.1, back (sfits_mag _ c.known-told.given.0.1))
 
 returns-10 : tie.Need-returns-10
 unfolding choice
@@ -102,7 +102,7 @@ returns-11 c = rw (c.before.before.before.f.given.1, c.enum-told12.given.1)
 
 returns-12 : tie.Need-returns-12
 unfolding choice
-returns-12 c = rw (c.before.before.before.f.given.1, c.enum-told13.given.1, back (sfits-mag _ c.before.before.known-told2.given.0.1))
+returns-12 c = rw (c.before.before.before.f.given.1, c.enum-told13.given.1, back (sfits_mag _ c.before.before.known-told2.given.0.1))
 
 returns-13 : tie.Need-returns-13
 unfolding choice
@@ -110,7 +110,7 @@ returns-13 c =
     let k = c.before.before in
     let f = k.before.before.before in
     rw (f.f.given.1, k.g2.given.1)
-    (rw (back (sfits-mag f.f.given.0.0 k.before.before.known-told2.given.0.1), back (sfits-mag k.g2.given.0.0 c.before.known-told3.given.0.1)) at c.by-serial.ensures)
+    (rw (back (sfits_mag f.f.given.0.0 k.before.before.known-told2.given.0.1), back (sfits_mag k.g2.given.0.0 c.before.known-told3.given.0.1)) at c.by_serial_lem.ensures)
 
 pub choose_spec : {M : Type 1} → statement M
 choose_spec =

@@ -7,8 +7,8 @@ use lib.Dec.{ltb}
 use lib.ListN.{length}
 use borrow.Author.Rules.{rules}
 use borrow.Author.Tests.{ltb-true, ltb-false}
-use Rattle.merge.proofs.Laws.{merged-fits}
-use Rattle.merge.proofs.Call.{short, turned-away, all_done}
+use Rattle.merge.proofs.Laws.{merged_fits}
+use Rattle.merge.proofs.Call.{short, turned_away, all_done}
 use Rattle.merge.proofs.merge.Statement.{statement}
 use Rattle.merge.proofs.merge.Tie as tie
 
@@ -39,13 +39,13 @@ returns-3 c =
 returns-2 : tie.Need-returns-2
 returns-2 c =
     let s = c.before.before.before.before.before.before.before.args in
-    turned-away s.a.now s.b.now s.out.now (ltb-false _ _ (roomy c.before.before)) c.before.decide.ensures c.if2.true (omega arith)
+    turned_away s.a.now s.b.now s.out.now (ltb-false _ _ (roomy c.before.before)) c.before.decide.ensures c.if2.true (omega arith)
 
 write-requires : tie.Need-write-requires
 write-requires c κs =
     let s = c.before.before.before.before.before.before.before.before.args in
     let i = c.before in
-    (sym i.before.decide.ensures ∙ i.if2.false, omega (arith, merged-fits s.a.now s.b.now, ltb-false (length s.out.now) (length s.a.now + length s.b.now + 2) (roomy i.before.before)))
+    (sym i.before.decide.ensures ∙ i.if2.false, omega (arith, merged_fits s.a.now s.b.now, ltb-false (length s.out.now) (length s.a.now + length s.b.now + 2) (roomy i.before.before)))
 
 same_length : tie.Need-same-length
 same_length c = search rules

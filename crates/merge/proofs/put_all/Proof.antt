@@ -4,14 +4,14 @@ use lib.ListN.{length, length-append}
 use mathlib.Core.Path.{ap}
 use mathlib.Core.List.{[], ◌∷◌}
 use Rattle.buffer.proofs.Put.{nothing}
-use Rattle.buffer.proofs.Fitting.{fitted-put}
-use Rattle.merge.proofs.Follows.{text-none, text-newline, text-other}
+use Rattle.buffer.proofs.Fitting.{fitted_put}
+use Rattle.merge.proofs.Follows.{text_none, text_newline, text_other}
 use borrow.Author.Rules.{rules}
 use Rattle.merge.proofs.put_all.Statement.{statement}
 use Rattle.merge.proofs.put_all.Tie as tie
 
 returns : tie.Need-returns
-returns c = let s = c.before.before.before.args in rw (text-none s.s.now c.if1.true) (nothing s.out.now s.at)
+returns c = let s = c.before.before.before.args in rw (text_none s.s.now c.if1.true) (nothing s.out.now s.at)
 
 sub-if2 : tie.Need-overflow-sub-if2
 sub-if2 c = search rules
@@ -30,14 +30,14 @@ returns-2 c =
     let p = c.before.before in
     let t = p.before.before in
     let k = c.before.before.before.before.before.before.before.before.before in
-    let is = text-newline k.args.s.now t.before.before.if1.false t.if2.true in
-    rw is (fitted-put (rw is at k.requires) p.put-bytes.ensures)
+    let is = text_newline k.args.s.now t.before.before.if1.false t.if2.true in
+    rw is (fitted_put (rw is at k.requires) p.put-bytes.ensures)
 
 put-line-requires : tie.Need-put-line-requires
 put-line-requires c κs =
     let t = c.before in
     let k = c.before.before.before.before.before.before in
-    omega (arith, k.requires, ap length (text-other k.args.s.now t.before.before.if1.false t.if2.false), length-append k.args.s.now (10 ∷ []))
+    omega (arith, k.requires, ap length (text_other k.args.s.now t.before.before.if1.false t.if2.false), length-append k.args.s.now (10 ∷ []))
 
 same-length-2 : tie.Need-same-length-2
 same-length-2 c = search rules
@@ -47,7 +47,7 @@ returns-3 c =
     let p = c.before.before in
     let t = p.before.before in
     let k = c.before.before.before.before.before.before.before.before.before in
-    rw (text-other k.args.s.now t.before.before.if1.false t.if2.false) p.put-line.ensures
+    rw (text_other k.args.s.now t.before.before.if1.false t.if2.false) p.put-line.ensures
 
 pub put-all-spec : {M : Type 1} → statement M
 put-all-spec =

@@ -1,6 +1,6 @@
 -- `merge::rest` meets its contract.
 use native.Mathlib.Omega.{arith}
-use Rattle.merge.proofs.Found.{within, behind-newline, behind-last}
+use Rattle.merge.proofs.Found.{within, behind_newline, behind_last}
 use borrow.Author.Rules.{rules}
 use Rattle.merge.proofs.rest.Statement.{statement}
 use Rattle.merge.proofs.rest.Tie as tie
@@ -30,10 +30,10 @@ part-result-end-2 : tie.Need-slice-bounds-result-end-2
 part-result-end-2 c = search rules
 
 returns : tie.Need-returns
-returns c = let k = c.before.before in behind-newline k.before.before.args.s.now k.find-byte.result k.find-byte.ensures
+returns c = let k = c.before.before in behind_newline k.before.before.args.s.now k.find-byte.result k.find-byte.ensures
 
 returns-2 : tie.Need-returns-2
-returns-2 c = let k = c.before.before in behind-last k.before.before.args.s.now k.find-byte.result k.find-byte.ensures c.before.if1.false
+returns-2 c = let k = c.before.before in behind_last k.before.before.args.s.now k.find-byte.result k.find-byte.ensures c.before.if1.false
 
 pub rest-spec : {M : Type 1} → statement M
 rest-spec =

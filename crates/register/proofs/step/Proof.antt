@@ -1,21 +1,21 @@
 -- `register::step` meets its contract.
 use mathlib.Core.Path.{◌≡◌, sym, ◌∙◌, ap, subst}
 use borrow.Author.Rules.{rules}
-use Rattle.word.proofs.Fits.{back, sfits-mag}
+use Rattle.word.proofs.Fits.{back, sfits_mag}
 use Rattle.point.specs.Point.{gauss, point}
-use Rattle.table_numbers.specs.Listed.{byDigit}
+use Rattle.table_numbers.specs.Listed.{by_digit}
 use Rattle.table_numbers.specs.Rows.{number, none}
-use Rattle.register.specs.Code.{doubledLess, LessPre}
+use Rattle.register.specs.Code.{doubled_less, LessPre}
 use Rattle.register.proofs.step.Statement.{statement}
 use Rattle.register.proofs.step.Tie as tie
 
 -- the entry that was picked
 picked : (c : tie.After-pick) → let a = c.before.before.before.before.before.args in
-    c.pick.result ≡ byDigit a.row none a.d.dy
+    c.pick.result ≡ by_digit a.row none a.d.dy
 picked c =
     let t = c.before.before in
     let a = t.before.before.before.args in
-    c.pick.ensures ∙ ap (byDigit a.row none) (back (sfits-mag a.d.dy t.struct_told.given.1.0.1))
+    c.pick.ensures ∙ ap (by_digit a.row none) (back (sfits_mag a.d.dy t.struct_told.given.1.0.1))
 
 step-requires : tie.Need-step-requires
 step-requires c κs = search rules
@@ -33,7 +33,7 @@ returns : tie.Need-returns
 returns c =
     let p = c.before in
     let s = p.before.before.before.before.before in
-    let sum = c.doubled-less.ensures ∙ ap (λ e. point (doubledLess (gauss s.args.s.sum) (number e) s.args.n)) (picked p) in
+    let sum = c.doubled-less.ensures ∙ ap (λ e. point (doubled_less (gauss s.args.s.sum) (number e) s.args.n)) (picked p) in
     λ i. record { point = p.before.step.ensures i; sum = sum i }
 
 pub step_spec : {M : Type 1} → statement M

@@ -5,12 +5,12 @@ use native.Mathlib.Numerals.{add-one}
 use lib.IntN.{pos}
 use borrow.Author.Rules.{rules}
 use Rattle.algebra.specs.Rounding.{floorᵍ}
-use Rattle.word.proofs.Fits.{back, sfits-mag}
+use Rattle.word.proofs.Fits.{back, sfits_mag}
 use Rattle.point.specs.declared.Point.{Point}
 use Rattle.point.specs.Point.{gauss, point}
-use Rattle.table_numbers.specs.Table.{stepTable}
+use Rattle.table_numbers.specs.Table.{step_table}
 use Rattle.iteration.specs.declared.State.{State}
-use Rattle.register.specs.Register.{register-run}
+use Rattle.register.specs.Register.{register_run}
 use Rattle.register.specs.Code.{Fits}
 use Rattle.register.proofs.take.Statement.{statement}
 use Rattle.register.proofs.take.Tie as tie
@@ -26,10 +26,10 @@ returns c =
     let end = o.before.before.before in
     let d = end.before in
     let a = d.before.before.before.args in
-    let state = end.run.ensures ∙ ap (λ r. register-run 48 stepTable 0 a.n (begun a.f.value r)) d.doubled.ensures in
+    let state = end.run.ensures ∙ ap (λ r. register_run 48 step_table 0 a.n (begun a.f.value r)) d.doubled.ensures in
     let left = o.over.ensures ∙ (λ i. point (floorᵍ (gauss (state i).sum) (2 ^ add-one a.n i))) in
-    let k = back (sfits-mag a.f.binary_exponent t.struct_told.given.1.0.1) in
-    let bound = back (sfits-mag a.f.error_bound c.struct-told2.given.1.1.1.0.1) in
+    let k = back (sfits_mag a.f.binary_exponent t.struct_told.given.1.0.1) in
+    let bound = back (sfits_mag a.f.error_bound c.struct-told2.given.1.1.1.0.1) in
     λ i. record {
       value = (state i).point;
       binary_exponent = k i;
@@ -44,7 +44,7 @@ doubled-requires c κs = search rules
 run-requires : tie.Need-run-requires
 run-requires c κs =
     let s = c.before.before.before in
-    subst (λ r. Fits 48 stepTable 0 s.args.n (begun s.args.f.value r)) (sym c.doubled.ensures) s.requires.fits
+    subst (λ r. Fits 48 step_table 0 s.args.n (begun s.args.f.value r)) (sym c.doubled.ensures) s.requires.fits
 
 add-over : tie.Need-overflow-add-over
 add-over c = search rules

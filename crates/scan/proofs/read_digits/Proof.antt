@@ -2,33 +2,33 @@
 use Rattle.std.proofs.Common.{◌≡◌, ℕ, suc, ◌+◌, ◌-◌, ◌^◌, ◌<◌, ◌≤◌, List, get_or, sym, refl, ◌∙◌, arith, lit<, rules}
 use lib.Seq.{slice}
 use Rattle.scan.specs.Decimal.{value}
-use Rattle.scan.specs.Find.{findByte}
-use Rattle.scan.proofs.Find.{ended, found-later, passed}
-use Rattle.scan.proofs.Scan.{value-digit, digit-more, digits-most}
+use Rattle.scan.specs.Find.{find_byte}
+use Rattle.scan.proofs.Find.{ended, found_later, passed}
+use Rattle.scan.proofs.Scan.{value_digit, digit_more, digits_most}
 use Rattle.scan.proofs.read_digits.Statement.{statement}
 use Rattle.scan.proofs.read_digits.Tie as tie
 
-abbrev invariant-loop : tie.invariant-loop
-invariant-loop s from to v₀ i₀ v i =
-    (from ≤ i) × (i ≤ to) × (v < 10 ^ (i - from)) × (findByte 9 s i ≡ findByte 9 s from) ×
-    (value v (slice i (findByte 9 s from) s) ≡ value 0 (slice from (findByte 9 s from) s))
+abbrev invariant_loop : tie.invariant_loop
+invariant_loop s from to v₀ i₀ v i =
+    (from ≤ i) × (i ≤ to) × (v < 10 ^ (i - from)) × (find_byte 9 s i ≡ find_byte 9 s from) ×
+    (value v (slice i (find_byte 9 s from) s) ≡ value 0 (slice from (find_byte 9 s from) s))
 
-abbrev decreases-loop : tie.decreases-loop
-decreases-loop s from to v₀ i₀ v i = to - i
+abbrev decreases_loop : tie.decreases_loop
+decreases_loop s from to v₀ i₀ v i = to - i
 
-loop-holds : tie.Need-loop-init invariant-loop decreases-loop
+loop-holds : tie.Need-loop-init invariant_loop decreases_loop
 loop-holds c =
     let a = c.before.args in
     let e : a.from - a.from ≡ 0 = omega arith in
     (omega arith, c.before.requires.0, rw e (lit< tt), refl, refl)
 
-shared-slice-read-wrapping-sub-u8 : tie.Need-shared-slice-read-wrapping-sub-u8 invariant-loop decreases-loop
+shared-slice-read-wrapping-sub-u8 : tie.Need-shared-slice-read-wrapping-sub-u8 invariant_loop decreases_loop
 shared-slice-read-wrapping-sub-u8 c = omega arith
 
-wrapping-sub-u8-requires : tie.Need-wrapping-sub-u8-requires invariant-loop decreases-loop
+wrapping-sub-u8-requires : tie.Need-wrapping-sub-u8-requires invariant_loop decreases_loop
 wrapping-sub-u8-requires c κs = search rules
 
-returns : tie.Need-returns invariant-loop decreases-loop
+returns : tie.Need-returns invariant_loop decreases_loop
 returns c =
     let l = c.before.before.before.before in
     record {
@@ -40,11 +40,11 @@ returns c =
     }
 
 -- a byte that is a digit
-module _ (c : tie.Else1 invariant-loop decreases-loop) where
-  abbrev head : tie.At-loop invariant-loop decreases-loop
+module _ (c : tie.Else1 invariant_loop decreases_loop) where
+  abbrev head : tie.At-loop invariant_loop decreases_loop
   head = c.before.before.before.before
 
-  abbrev start : tie.Start invariant-loop decreases-loop
+  abbrev start : tie.Start invariant_loop decreases_loop
   start = head.before.before
 
   abbrev bytes : List ℕ
@@ -60,24 +60,24 @@ module _ (c : tie.Else1 invariant-loop decreases-loop) where
   plain e = omega (arith, byte)
 
   few : head.loop.value < 10 ^ 18
-  few = digits-most (head.loop.i - start.args.from) head.loop.value head.loop.inv.2 (omega arith)
+  few = digits_most (head.loop.i - start.args.from) head.loop.value head.loop.inv.2 (omega arith)
 
-mul-value : tie.Need-overflow-mul-value invariant-loop decreases-loop
+mul-value : tie.Need-overflow-mul-value invariant_loop decreases_loop
 mul-value c = omega (arith, few c)
 
-cast-value : tie.Need-overflow-cast-value invariant-loop decreases-loop
+cast-value : tie.Need-overflow-cast-value invariant_loop decreases_loop
 cast-value c = search rules
 
-add-value : tie.Need-overflow-add-value invariant-loop decreases-loop
+add-value : tie.Need-overflow-add-value invariant_loop decreases_loop
 add-value c = omega (arith, few c)
 
-add-i : tie.Need-overflow-add-i invariant-loop decreases-loop
+add-i : tie.Need-overflow-add-i invariant_loop decreases_loop
 add-i c = omega arith
 
-loop-less : tie.Need-loop-smaller invariant-loop decreases-loop
+loop-less : tie.Need-loop-smaller invariant_loop decreases_loop
 loop-less c = omega arith
 
-loop-again : tie.Need-loop-preserved invariant-loop decreases-loop
+loop-again : tie.Need-loop-preserved invariant_loop decreases_loop
 loop-again c =
     let l = head c in
     let i = l.loop.i in
@@ -85,15 +85,15 @@ loop-again c =
     let s = bytes c in
     let more : i + 1 - from ≡ suc (i - from) = omega arith in
     let field = ended {m = 9} {s = s} {from = from} (omega arith) refl in
-    let before : i < findByte 9 s from = omega (arith, passed 9 s i (omega arith) (plain c), l.loop.inv.3) in (
+    let before : i < find_byte 9 s from = omega (arith, passed 9 s i (omega arith) (plain c), l.loop.inv.3) in (
       omega arith,
       omega arith,
-      rw more (digit-more (i - from) l.loop.value (digit c) l.loop.inv.2 c.if1.false),
-      sym (found-later 9 s i (omega arith) (plain c)) ∙ l.loop.inv.3,
-      sym (value-digit s i (findByte 9 s from) l.loop.value before field.high (digit c) c.if1.false (byte c)) ∙ l.loop.inv.4,
+      rw more (digit_more (i - from) l.loop.value (digit c) l.loop.inv.2 c.if1.false),
+      sym (found_later 9 s i (omega arith) (plain c)) ∙ l.loop.inv.3,
+      sym (value_digit s i (find_byte 9 s from) l.loop.value before field.high (digit c) c.if1.false (byte c)) ∙ l.loop.inv.4,
     )
 
-returns-2 : tie.Need-returns-2 invariant-loop decreases-loop
+returns-2 : tie.Need-returns-2 invariant_loop decreases_loop
 returns-2 c =
     let l = c.before in
     record {
@@ -108,8 +108,8 @@ pub read-digits-spec : {M : Type 1} → statement M
 read-digits-spec =
     tie.close
     (tie.spec
-    invariant-loop
-    decreases-loop
+    invariant_loop
+    decreases_loop
     loop-holds
     shared-slice-read-wrapping-sub-u8
     wrapping-sub-u8-requires

@@ -3,11 +3,11 @@ use Rattle.std.proofs.Common.{◌≡◌, ℕ, ◌+◌, ◌^◌, ◌<◌, true, L
 use borrow.Author.Tests.{lt-leb}
 use lib.Seq.{slice}
 use Rattle.scan.specs.declared.Natural.TheVariants as nat
-use Rattle.scan.specs.Decimal.{up_to, readNatural}
-use Rattle.scan.specs.Find.{findByte}
+use Rattle.scan.specs.Decimal.{up_to, read_natural}
+use Rattle.scan.specs.Find.{find_byte}
 use Rattle.scan.specs.Code.{ends_at, Worth}
 use Rattle.scan.proofs.Find.{found_none}
-use Rattle.scan.proofs.Tab.{ends-here, size_none, size-zero, size-lead, worth-ended, worth-broken}
+use Rattle.scan.proofs.Tab.{ends_here, size_none, size_zero, size_lead, worth_ended, worth_broken}
 use Rattle.scan.proofs.read_natural.Statement.{statement}
 use Rattle.scan.proofs.read_natural.Tie as tie
 
@@ -38,14 +38,14 @@ returns-2 c =
     let z = c.before.before in
     let e = z.before.before in
     let a = e.before.before.args in
-    size-zero a.s.now a.from (inside e) z.if2.true (sym c.before.ends.ensures ∙ c.if3.true)
+    size_zero a.s.now a.from (inside e) z.if2.true (sym c.before.ends.ensures ∙ c.if3.true)
 
 returns-3 : tie.Need-returns-3
 returns-3 c =
     let z = c.before.before in
     let e = z.before.before in
     let a = e.before.before.args in
-    size-lead a.s.now a.from (inside e) z.if2.true (sym c.before.ends.ensures ∙ c.if3.false)
+    size_lead a.s.now a.from (inside e) z.if2.true (sym c.before.ends.ensures ∙ c.if3.false)
 
 sub-least : tie.Need-overflow-sub-least
 sub-least c = search rules
@@ -73,41 +73,41 @@ module _ (c : tie.After-read-digits) where
   abbrev from : ℕ
   from = at.before.before.args.from
 
-  digits : Worth bytes from (from + c.before.least.result) c.read-digits.result.value c.read-digits.result.end
-  digits = c.read-digits.ensures
+  digits : Worth bytes from (from + c.before.least.result) c.read_digits.result.value c.read_digits.result.end
+  digits = c.read_digits.ensures
 
 -- where they end, if the field does
 module _ (c : tie.Then4) where
   abbrev read : tie.After-read-digits
   read = c.before.before
 
-  over : ends_at (bytes read) read.read-digits.result.end ≡ true
+  over : ends_at (bytes read) read.read_digits.result.end ≡ true
   over = sym c.before.ends2.ensures ∙ c.if4.true
 
 returns-4 : tie.Need-returns-4
 returns-4 c =
     let r = read c.before in
-    size_none (bytes r) (from r) (sym (digits r).tab ∙ (ends-here (bytes r) _ (over c.before) ∙ c.if5.true))
+    size_none (bytes r) (from r) (sym (digits r).tab ∙ (ends_here (bytes r) _ (over c.before) ∙ c.if5.true))
 
 module _ (c : tie.Else5) where
   abbrev last : tie.After-read-digits
   last = read c.before
 
-  size : (findByte 9 (bytes last) (from last) ≡ last.read-digits.result.end) ×
-      (readNatural (slice (from last) (findByte 9 (bytes last) (from last)) (bytes last)) ≡ up_to (2 ^ 63)
-      (nat.Is last.read-digits.result.value))
-  size = worth-ended (inside (at last)) last.before.before.if2.left (digits last) (over c.before) c.if5.false
+  size : (find_byte 9 (bytes last) (from last) ≡ last.read_digits.result.end) ×
+      (read_natural (slice (from last) (find_byte 9 (bytes last) (from last)) (bytes last)) ≡ up_to (2 ^ 63)
+      (nat.Is last.read_digits.result.value))
+  size = worth_ended (inside (at last)) last.before.before.if2.left (digits last) (over c.before) c.if5.false
 
 returns-5 : tie.Need-returns-5
 returns-5 c =
     let e = c.before in
-    let v = (last e).read-digits.result.value in
+    let v = (last e).read_digits.result.value in
     record { is = sym ((size e).1 ∙ rw (le-leb v (2 ^ 63) c.if6.true)); ends = inr (sym (size e).0) }
 
 returns-6 : tie.Need-returns-6
 returns-6 c =
     let e = c.before in
-    let v = (last e).read-digits.result.value in
+    let v = (last e).read_digits.result.value in
     record { is = sym ((size e).1 ∙ rw (lt-leb v (2 ^ 63) c.if6.false)); ends = inl refl }
 
 returns-7 : tie.Need-returns-7
@@ -116,7 +116,7 @@ returns-7 c =
     let n = r.before.before.if2.false in
     let t = sym c.before.ends2.ensures ∙ c.if4.false in
     let to = ap (λ (k : ℕ). from r + k) r.before.least.ensures in
-    record { is = sym (worth-broken (inside (at r)) n (digits r) to t); ends = inl refl }
+    record { is = sym (worth_broken (inside (at r)) n (digits r) to t); ends = inl refl }
 
 pub read-natural-spec : {M : Type 1} → statement M
 read-natural-spec =

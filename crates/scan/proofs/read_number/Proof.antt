@@ -1,9 +1,9 @@
 -- `scan::read_number` meets its contract: the part cut to the slice, read as a field to its end.
 use Rattle.std.proofs.Common.{◌≡◌, ◌-◌, take, drop, ap, ◌∙◌, rules}
 use lib.Seq.{slice}
-use Rattle.scan.specs.Decimal.{readNumber}
+use Rattle.scan.specs.Decimal.{read_number}
 use Rattle.scan.proofs.Find.{Cut, cut, part_slice}
-use Rattle.scan.proofs.Tab.{read-to-end, read-not-to-end}
+use Rattle.scan.proofs.Tab.{read_to_end, read_not_to_end}
 use Rattle.scan.proofs.read_number.Statement.{statement}
 use Rattle.scan.proofs.read_number.Tie as tie
 
@@ -41,12 +41,12 @@ read-field-requires c κs = search rules
 returns : tie.Need-returns
 returns c =
     let r = c.before in
-    read-not-to-end r.read-field.ensures c.if1.true ∙ ap readNumber (bytes r)
+    read_not_to_end r.read-field.ensures c.if1.true ∙ ap read_number (bytes r)
 
 returns-2 : tie.Need-returns-2
 returns-2 c =
     let r = c.before in
-    read-to-end r.read-field.ensures c.if1.false ∙ ap readNumber (bytes r)
+    read_to_end r.read-field.ensures c.if1.false ∙ ap read_number (bytes r)
 
 pub read-number-spec : {M : Type 1} → statement M
 read-number-spec =

@@ -3,7 +3,7 @@ use Prim.Native.Nat.{ℕ}
 use lib.IntN.{ℤ, pos}
 use lib.ListN.{get_or}
 use borrow.Author.Rules.{rules}
-use Rattle.word.proofs.Fits.{back, sfits-mag}
+use Rattle.word.proofs.Fits.{back, sfits_mag}
 use Rattle.step_table.proofs.row_at.Statement.{statement}
 use Rattle.step_table.proofs.row_at.Tie as tie
 
@@ -37,12 +37,12 @@ returns c =
     let one = two.before in
     let at : ℕ → ℤ = λ i. get_or one.before.numbers-at.result i (pos 0) in
     rw (
-      back (sfits-mag (at 0) one.t6.given),
-      back (sfits-mag (at 1) two.t9.given),
-      back (sfits-mag (at 2) three.t13.given),
-      back (sfits-mag (at 3) four.t16.given),
-      back (sfits-mag (at 4) five.t20.given),
-      back (sfits-mag (at 5) c.t23.given),
+      back (sfits_mag (at 0) one.t6.given),
+      back (sfits_mag (at 1) two.t9.given),
+      back (sfits_mag (at 2) three.t13.given),
+      back (sfits_mag (at 3) four.t16.given),
+      back (sfits_mag (at 4) five.t20.given),
+      back (sfits_mag (at 5) c.t23.given),
     ) one.before.numbers-at.ensures
 
 pub row-at-spec : {M : Type 1} → statement M

@@ -4,7 +4,7 @@ use native.Mathlib.Omega.{arith}
 use lib.ListN.{length, take}
 use borrow.Author.Rules.{rules}
 use Rattle.stream.specs.Sheet.{place_of}
-use Rattle.stream.proofs.Kept.{take_again, length-take-most}
+use Rattle.stream.proofs.Kept.{take_again, length_take_most}
 use Rattle.stream.proofs.answer_begun.Statement.{statement}
 use Rattle.stream.proofs.answer_begun.Tie as tie
 
@@ -25,7 +25,7 @@ array-share-prefix-bytes : tie.Need-array-share-prefix-bytes
 array-share-prefix-bytes c =
     let n = c.before.before in
     let p = (start n).args.place in
-    omega (arith, n.count.ensures, length-take-most p.len p.bytes)
+    omega (arith, n.count.ensures, length_take_most p.len p.bytes)
 
 slice-aggregate-next : tie.Need-slice-aggregate-next
 slice-aggregate-next c = let n = c.before.before.before in n.count.ensures ∙ sym (ap length (counted n))

@@ -5,7 +5,7 @@ use borrow.Author.Rules.{rules}
 use lib.Seq.{slice}
 use Rattle.scan.proofs.Find.{part_slice}
 use Rattle.stream.specs.declared.State.{State}
-use Rattle.stream.specs.Machine.{Place, goOn, lineEnd}
+use Rattle.stream.specs.Machine.{Place, go_on, line_end}
 use Rattle.stream.specs.Sheet.{machine, place_of}
 use Rattle.stream.proofs.Pieces.{told}
 use Rattle.stream.proofs.answer_ended.Statement.{statement}
@@ -48,8 +48,8 @@ returns-2 c =
     let a = c.before.before in
     let e = a.before.before in
     let s = e.before.before.before.before in
-    let p = goOn (place_of s.args.place) (slice s.args.from s.args.to s.args.s.now) in
-    let same = ap (λ (q : Place State). lineEnd machine q) e.extended.ensures ∙ told p.state p.begun in
+    let p = go_on (place_of s.args.place) (slice s.args.from s.args.to s.args.s.now) in
+    let same = ap (λ (q : Place State). line_end machine q) e.extended.ensures ∙ told p.state p.begun in
     rw same at a.answer-begun.ensures
 
 pub answer-ended-spec : {M : Type 1} → statement M

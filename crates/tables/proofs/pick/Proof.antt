@@ -6,18 +6,18 @@ use lib.ListN.{get_or}
 use borrow.Author.Tests.{not-true, not-false}
 use borrow.Author.Rules.{rules}
 use Rattle.word.specs.Compare.{between}
-use Rattle.word.proofs.Fits.{back, sfits-mag}
+use Rattle.word.proofs.Fits.{back, sfits_mag}
 use Rattle.point.specs.Digit.{Trit}
 use Rattle.table_numbers.specs.Rows.{none}
-use Rattle.table_numbers.proofs.DigitPlaces.{trit-of, outside}
+use Rattle.table_numbers.proofs.DigitPlaces.{trit_of, outside}
 use Rattle.tables.specs.Code.{by_sign}
-use Rattle.tables.proofs.Signs.{by-sign}
+use Rattle.tables.proofs.Signs.{by_sign_lem}
 use Rattle.tables.proofs.pick.Statement.{statement}
 use Rattle.tables.proofs.pick.Tie as tie
 
 digit : (c : tie.Else1) → Trit c.before.before.args.dy
 digit c = let s = c.before.before in
-    trit-of s.args.dy (simp (back, s.ranges.dy) at (sym c.before.is-between.ensures ∙ not-false _ c.if1.false))
+    trit_of s.args.dy (simp (back, s.ranges.dy) at (sym c.before.is_between.ensures ∙ not-false _ c.if1.false))
 
 is-between-requires : tie.Need-is-between-requires
 is-between-requires c κs = search rules
@@ -26,7 +26,7 @@ returns : tie.Need-returns
 returns c =
     let s = c.before.before in
     let t : between (negsuc 0) (pos 1) s.args.dy ≡ false = simp (back, s.ranges.dy) at
-    (sym c.before.is-between.ensures ∙ not-true _ c.if1.true) in
+    (sym c.before.is_between.ensures ∙ not-true _ c.if1.true) in
     sym (outside s.args.t1 none s.args.dy t)
 
 array-copy-out-minus : tie.Need-array-copy-out-minus
@@ -57,17 +57,17 @@ returns-2 c =
     let s = e.before.before in
     let row = s.args.t1 in
     let dy = back s.ranges.dy in
-    let minus-re = back (sfits-mag (get_or row 0 none).re t1.struct_told.given.0.1) in
-    let zero-re = back (sfits-mag (get_or row 1 none).re t2.struct-told2.given.0.1) in
-    let plus-re = back (sfits-mag (get_or row 2 none).re t3.struct-told3.given.0.1) in
-    let minus-im = back (sfits-mag (get_or row 0 none).im t4.struct-told4.given.1.0.1) in
-    let zero-im = back (sfits-mag (get_or row 1 none).im t5.struct-told5.given.1.0.1) in
-    let plus-im = back (sfits-mag (get_or row 2 none).im t6.struct-told6.given.1.0.1) in
-    let re = back (sfits-mag b.by-sign.result b.by-sign.type-inv)
-    ∙ (b.by-sign.ensures ∙ (λ i. by_sign (dy i) (minus-re i) (zero-re i) (plus-re i))) in
-    let im = back (sfits-mag c.by-sign2.result c.by-sign2.type-inv)
-    ∙ (c.by-sign2.ensures ∙ (λ i. by_sign (dy i) (minus-im i) (zero-im i) (plus-im i))) in
-    (λ i. record { re = re i; im = im i }) ∙ by-sign row none (digit e)
+    let minus_re = back (sfits_mag (get_or row 0 none).re t1.struct_told.given.0.1) in
+    let zero_re = back (sfits_mag (get_or row 1 none).re t2.struct-told2.given.0.1) in
+    let plus_re = back (sfits_mag (get_or row 2 none).re t3.struct-told3.given.0.1) in
+    let minus_im = back (sfits_mag (get_or row 0 none).im t4.struct-told4.given.1.0.1) in
+    let zero_im = back (sfits_mag (get_or row 1 none).im t5.struct-told5.given.1.0.1) in
+    let plus_im = back (sfits_mag (get_or row 2 none).im t6.struct-told6.given.1.0.1) in
+    let re = back (sfits_mag b.by_sign_lem.result b.by_sign_lem.type-inv)
+    ∙ (b.by_sign_lem.ensures ∙ (λ i. by_sign (dy i) (minus_re i) (zero_re i) (plus_re i))) in
+    let im = back (sfits_mag c.by-sign2.result c.by-sign2.type-inv)
+    ∙ (c.by-sign2.ensures ∙ (λ i. by_sign (dy i) (minus_im i) (zero_im i) (plus_im i))) in
+    (λ i. record { re = re i; im = im i }) ∙ by_sign_lem row none (digit e)
 
 pub pick_spec : {M : Type 1} → statement M
 pick_spec =

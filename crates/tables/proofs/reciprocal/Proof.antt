@@ -3,21 +3,21 @@ use mathlib.Core.Path.{◌≡◌, sym, ◌∙◌, ap}
 use mathlib.Core.Bool.{true}
 use borrow.Author.Rules.{rules}
 use Rattle.word.proofs.Fits.{back}
-use Rattle.table_numbers.specs.Cell.{isCell}
+use Rattle.table_numbers.specs.Cell.{is_cell}
 use Rattle.table_numbers.specs.Rows.{entry}
-use Rattle.tables.proofs.Cells.{no-reciprocal, in_table, cell-reciprocal}
-use Rattle.tables.proofs.Division.{CentreFits, centre-fits, inverse-is}
+use Rattle.tables.proofs.Cells.{no_reciprocal, in_table, cell_reciprocal_lem}
+use Rattle.tables.proofs.Division.{CentreFits, centre_fits, inverse_is}
 use Rattle.tables.proofs.reciprocal.Statement.{statement}
 use Rattle.tables.proofs.reciprocal.Tie as tie
 
 is-cell-requires : tie.Need-is-cell-requires
 is-cell-requires c κs = search rules
 
-inside : (c : tie.Then1) → isCell c.before.before.args.column c.before.before.args.row ≡ true
-inside c = let s = c.before.before in simp (back, s.ranges.column, s.ranges.row) at (sym c.before.is-cell.ensures ∙ c.if1.true)
+inside : (c : tie.Then1) → is_cell c.before.before.args.column c.before.before.args.row ≡ true
+inside c = let s = c.before.before in simp (back, s.ranges.column, s.ranges.row) at (sym c.before.is_cell_lem.ensures ∙ c.if1.true)
 
 facts : (c : tie.Then1) → CentreFits c.before.before.args.column c.before.before.args.row
-facts c = let s = c.before.before in centre-fits (in_table s.args.column s.args.row (inside c))
+facts c = let s = c.before.before in centre_fits (in_table s.args.column s.args.row (inside c))
 
 mul-x : tie.Need-overflow-mul-x
 mul-x c = let f = facts c in search rules
@@ -38,12 +38,12 @@ inverse-requires c κs = let s = c.before.before in let f = facts c in
 returns : tie.Need-returns
 returns c = let s = c.before.before.before in let f = facts c.before in let i = inside c.before in
     simp (back, s.ranges.column, s.ranges.row, f.columns, f.rows, f.x, f.y) at c.inverse.ensures
-    ∙ ap entry (inverse-is (in_table s.args.column s.args.row i)) ∙ cell-reciprocal s.args.column s.args.row i
+    ∙ ap entry (inverse_is (in_table s.args.column s.args.row i)) ∙ cell_reciprocal_lem s.args.column s.args.row i
 
 returns-2 : tie.Need-returns-2
 returns-2 c =
     let s = c.before.before in
-    no-reciprocal s.args.column s.args.row (simp (back, s.ranges.column, s.ranges.row) at (sym c.before.is-cell.ensures ∙ c.if1.false))
+    no_reciprocal s.args.column s.args.row (simp (back, s.ranges.column, s.ranges.row) at (sym c.before.is_cell_lem.ensures ∙ c.if1.false))
 
 pub reciprocal-spec : {M : Type 1} → statement M
 reciprocal-spec = tie.close (tie.spec is-cell-requires mul-x add-x mul-y add-y inverse-requires returns returns-2)

@@ -6,11 +6,11 @@ use native.Mathlib.Omega.{arith}
 use lib.Seq.{slice}
 use borrow.Author.Rules.{rules}
 use Rattle.word.proofs.Fits.{back}
-use Rattle.scan.specs.Fields.{fields_at, sameBytes}
+use Rattle.scan.specs.Fields.{fields_at, same_bytes}
 use Rattle.scan.proofs.Find.{Ended, ended}
 use Rattle.scan.proofs.Fields.{same_word}
-use Rattle.text.specs.Line.{EXP, LOG, kindLine}
-use Rattle.text.proofs.Parse.{kind-missing, kind-field, by_kind}
+use Rattle.text.specs.Line.{EXP, LOG, kind_line}
+use Rattle.text.proofs.Parse.{kind_missing, kind_field, by_kind}
 use Rattle.text.proofs.kind_line.Statement.{statement}
 use Rattle.text.proofs.kind_line.Tie as tie
 
@@ -28,21 +28,21 @@ module _ (c : tie.After-find-byte) where
   field : Ended 9 line start.args.at c.find-byte.result
   field = ended c.before.if1.false c.find-byte.ensures
 
-  words : kindLine start.args.serial (fields_at line start.args.at) ≡ by_kind start.args.serial kind
+  words : kind_line start.args.serial (fields_at line start.args.at) ≡ by_kind start.args.serial kind
       (fields_at line (c.find-byte.result + 1))
-  words = kind-field start.args.serial c.before.if1.false field
+  words = kind_field start.args.serial c.before.if1.false field
 
 -- which of the two words it is
-is-exp : (c : tie.After-same-bytes) → sameBytes (kind c.before.before) EXP ≡ c.same_bytes.result
-is-exp c = same_word (kind c.before.before) c.same_bytes.ensures refl
+is_exp : (c : tie.After-same-bytes) → same_bytes (kind c.before.before) EXP ≡ c.same_bytes.result
+is_exp c = same_word (kind c.before.before) c.same_bytes.ensures refl
 
-is-log : (c : tie.After-same-bytes2) → sameBytes (kind c.before.before.before.before.before) LOG ≡ c.same-bytes2.result
-is-log c = same_word (kind c.before.before.before.before.before) c.same-bytes2.ensures refl
+is_log : (c : tie.After-same-bytes2) → same_bytes (kind c.before.before.before.before.before) LOG ≡ c.same-bytes2.result
+is_log c = same_word (kind c.before.before.before.before.before) c.same-bytes2.ensures refl
 
 returns : tie.Need-returns
 returns c =
     let s = c.before.before in
-    rw (kind-missing s.args.serial s.args.s.now s.args.at c.if1.true)
+    rw (kind_missing s.args.serial s.args.s.now s.args.at c.if1.true)
 
 find-byte-requires : tie.Need-find-byte-requires
 find-byte-requires c κs = search rules
@@ -64,7 +64,7 @@ returns-2 c =
     let w = c.before.before in
     let f = w.before.before in
     let b = back (start f).ranges.serial in
-    rw (words f, is-exp w ∙ c.before.if2.true) (rw b at c.exp-line.ensures)
+    rw (words f, is_exp w ∙ c.before.if2.true) (rw b at c.exp-line.ensures)
 
 slice-aggregate-same-bytes-2 : tie.Need-slice-aggregate-same-bytes-2
 slice-aggregate-same-bytes-2 c = search rules
@@ -84,14 +84,14 @@ returns-3 c =
     let no = w.before.before in
     let f = no.before.before.before in
     let b = back (start f).ranges.serial in
-    rw (words f, is-exp no.before ∙ no.if2.false, is-log w ∙ c.before.if3.true) (rw b at c.log-line.ensures)
+    rw (words f, is_exp no.before ∙ no.if2.false, is_log w ∙ c.before.if3.true) (rw b at c.log-line.ensures)
 
 returns-4 : tie.Need-returns-4
 returns-4 c =
     let w = c.before in
     let no = w.before.before in
     let f = no.before.before.before in
-    rw (words f, is-exp no.before ∙ no.if2.false, is-log w ∙ c.if3.false)
+    rw (words f, is_exp no.before ∙ no.if2.false, is_log w ∙ c.if3.false)
 
 pub kind-line-spec : {M : Type 1} → statement M
 kind-line-spec =

@@ -3,8 +3,8 @@ use Prim.Native.Nat.{ℕ}
 use lib.IntN.{ℤ, pos}
 use lib.ListN.{get_or}
 use borrow.Author.Rules.{rules}
-use Rattle.word.proofs.Fits.{back, sfits-mag}
-use Rattle.scan.proofs.Numbers.{numbers-read}
+use Rattle.word.proofs.Fits.{back, sfits_mag}
+use Rattle.scan.proofs.Numbers.{numbers_read}
 use Rattle.text.proofs.log_line.Statement.{statement}
 use Rattle.text.proofs.log_line.Tie as tie
 
@@ -29,15 +29,15 @@ returns c =
     let s = r.before.before.before in
     let at : ℕ → ℤ = λ i. get_or r.read-numbers.new.1.1.0 i (pos 0) in
     rw (
-      rw c.before.before.before.if1.true at (numbers-read _ _ r.read-numbers.ensures),
+      rw c.before.before.before.if1.true at (numbers_read _ _ r.read-numbers.ensures),
       back s.ranges.serial,
-      back (sfits-mag (at 0) c.before.before.n.given),
-      back (sfits-mag (at 1) c.before.x.given),
-      back (sfits-mag (at 2) c.y.given),
+      back (sfits_mag (at 0) c.before.before.n.given),
+      back (sfits_mag (at 1) c.before.x.given),
+      back (sfits_mag (at 2) c.y.given),
     )
 
 returns-2 : tie.Need-returns-2
-returns-2 c = rw (rw c.if1.false at (numbers-read _ _ c.before.before.read-numbers.ensures))
+returns-2 c = rw (rw c.if1.false at (numbers_read _ _ c.before.before.read-numbers.ensures))
 
 pub log-line-spec : {M : Type 1} → statement M
 log-line-spec =

@@ -1,8 +1,8 @@
 -- `text::put_answer` meets its contract: the figures as a line, or the refusal.
 use borrow.Author.Rules.{rules}
 use Rattle.word.proofs.Fits.{back}
-use Rattle.answer.specs.Record.{recordOf}
-use Rattle.text.proofs.Call.{turned-away}
+use Rattle.answer.specs.Record.{record_of}
+use Rattle.text.proofs.Call.{turned_away}
 use Rattle.text.proofs.put_answer.Statement.{statement}
 use Rattle.text.proofs.put_answer.Tie as tie
 
@@ -25,7 +25,7 @@ same_length : tie.Need-same-length
 same_length c = search rules
 
 returns : tie.Need-returns
-unfolding recordOf
+unfolding record_of
 returns c =
     let p = c.before.before in
     let a = p.before.before.before in
@@ -36,12 +36,12 @@ same-length-2 : tie.Need-same-length-2
 same-length-2 c = search rules
 
 returns-2 : tie.Need-returns-2
-unfolding recordOf
+unfolding record_of
 returns-2 c =
     let m = c.before.before.before.before in
     let a = m.before.before in
     rw a.answer2.given.1
-    (turned-away a.answer2.given.0.0 _ _ _ a.before.before.before.ranges.serial m.number.type-inv m.number.ensures
+    (turned_away a.answer2.given.0.0 _ _ _ a.before.before.before.ranges.serial m.number.type-inv m.number.ensures
     c.before.before.refused.ensures)
 
 pub put-answer-spec : {M : Type 1} → statement M

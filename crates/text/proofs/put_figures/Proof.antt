@@ -8,11 +8,11 @@ use lib.Signed.{mag}
 use mir.Syntax.{w64}
 use mir.Val.{to_z, of_z}
 use borrow.Author.Rules.{rules}
-use Rattle.word.proofs.Fits.{back, sfits-mag}
-use Rattle.buffer.specs.Lines.{lineBytes}
+use Rattle.word.proofs.Fits.{back, sfits_mag}
+use Rattle.buffer.specs.Lines.{line_bytes}
 use Rattle.buffer.proofs.Fitting.{Fitted}
 use Rattle.answer.specs.declared.Answer.TheVariants.{Answered}
-use Rattle.answer.specs.Record.{recordOf}
+use Rattle.answer.specs.Record.{record_of}
 use Rattle.text.proofs.Call.{replied}
 use Rattle.text.proofs.put_figures.Statement.{statement}
 use Rattle.text.proofs.put_figures.Tie as tie
@@ -22,17 +22,17 @@ abbrev at : tie.After-record → ℕ → ℤ
 at r i = get_or r.record.result i (pos 0)
 
 held : (r : tie.After-record) (i : ℕ) → mag (at r i) < 2 ^ 63 →
-    to_z w64 (of_z w64 (at r i)) ≡ get_or (recordOf (Answered r.before.before.args.f)) i (pos 0)
-held r i h = back (sfits-mag (at r i) h) ∙ ap (λ l. get_or l i (pos 0)) r.record.ensures
+    to_z w64 (of_z w64 (at r i)) ≡ get_or (record_of (Answered r.before.before.args.f)) i (pos 0)
+held r i h = back (sfits_mag (at r i) h) ∙ ap (λ l. get_or l i (pos 0)) r.record.ensures
 
 -- ---- the contract
 -- a line that was put is that of a serial and fields which equal its own
-put_as : (b b' word : List ℕ) (serial serial' : ℤ) (zs zs' : List ℤ) (end : ℕ) → Fitted b 0 (lineBytes serial word zs) b' end →
-    serial ≡ serial' → zs ≡ zs' → Fitted b 0 (lineBytes serial' word zs') b' end
+put_as : (b b' word : List ℕ) (serial serial' : ℤ) (zs zs' : List ℤ) (end : ℕ) → Fitted b 0 (line_bytes serial word zs) b' end →
+    serial ≡ serial' → zs ≡ zs' → Fitted b 0 (line_bytes serial' word zs') b' end
 put_as b b' word serial serial' zs zs' end p s z = rw (s, z) at p
 
 returns : tie.Need-returns
-unfolding recordOf
+unfolding record_of
 returns c =
     let p = c.before.before in
     let t31 = p.before.before.before.before in
@@ -59,7 +59,7 @@ returns c =
     ))))
 
 returns-2 : tie.Need-returns-2
-unfolding recordOf
+unfolding record_of
 returns-2 c =
     let p = c.before.before in
     let t58 = p.before.before.before.before in

@@ -9,17 +9,17 @@ use Rattle.algebra.specs.Order.{◌⩽◌}
 use Rattle.algebra.proofs.Reify.{reify}
 use Rattle.algebra.proofs.Linear.{lin, lin<, ◌&◌, ◌&<◌, none}
 use Rattle.word.proofs.Fits.{back, sfits_pos}
-use Rattle.word.proofs.Compare.{ltZ-true, ltZ-false, lt-ltZ, le-ltZ}
+use Rattle.word.proofs.Compare.{lt_z_true, lt_z_false, lt_lt_z, le_lt_z}
 use Rattle.word.proofs.Bits.{Negative, negative, Nonnegative, nonnegative}
 use Rattle.word.proofs.magnitude.Statement.{statement}
 use Rattle.word.proofs.magnitude.Tie as tie
 
 -- what a test against k says of the sign
 under : (z : ℤ) {k : ℤ} → lt_z z k ≡ true → k ⩽ pos 0 → lt_z z (pos 0) ≡ true
-under z {k} h l = lt-ltZ {x = z} {y = pos 0} (lin< (z ∷ k ∷ []) (ltZ-true {x = z} {y = k} h &< l & none) (search reify depth 20) tt)
+under z {k} h l = lt_lt_z {x = z} {y = pos 0} (lin< (z ∷ k ∷ []) (lt_z_true {x = z} {y = k} h &< l & none) (search reify depth 20) tt)
 
 over : (z : ℤ) {k : ℤ} → lt_z z k ≡ false → pos 0 ⩽ k → lt_z z (pos 0) ≡ false
-over z {k} h l = le-ltZ {x = z} {y = pos 0} (lin (z ∷ k ∷ []) (ltZ-false {x = z} {y = k} h & l & none) (search reify depth 20) tt)
+over z {k} h l = le_lt_z {x = z} {y = pos 0} (lin (z ∷ k ∷ []) (lt_z_false {x = z} {y = k} h & l & none) (search reify depth 20) tt)
 
 abbrev below : (c : tie.Then1) → Negative c.before.args.z
 below c = negative c.before.ranges.z (under c.before.args.z (simp (back, c.before.ranges.z) at c.if1.true) (le_z_yes tt))

@@ -1,7 +1,7 @@
 -- `answer::Answer::record` meets its contract.
 use borrow.Author.Rules.{rules}
-use Rattle.word.proofs.Fits.{back, sfits-mag}
-use Rattle.answer.specs.Record.{recordOf}
+use Rattle.word.proofs.Fits.{back, sfits_mag}
+use Rattle.answer.specs.Record.{record_of}
 use Rattle.answer.proofs.Answer.record.Statement.{statement}
 use Rattle.answer.proofs.Answer.record.Tie as tie
 
@@ -21,15 +21,15 @@ numbers-requires-2 : tie.Need-numbers-requires-2
 numbers-requires-2 c κs = search rules
 
 returns : tie.Need-returns
-unfolding recordOf
+unfolding record_of
 returns c = rw c.before.before.self.given.1 c.numbers.ensures
 
 returns-2 : tie.Need-returns-2
-unfolding recordOf
+unfolding record_of
 returns-2 c =
     let n = c.before in
     rw (n.before.before.self2.given.1, ← n.number.ensures)
-    (rw (back (sfits-mag n.number.result n.number.type-inv)) at c.numbers2.ensures)
+    (rw (back (sfits_mag n.number.result n.number.type-inv)) at c.numbers2.ensures)
 
 pub record-spec : {M : Type 1} → statement M
 record-spec =

@@ -1,6 +1,6 @@
 -- `book::Reply::record` meets its contract.
 use borrow.Author.Rules.{rules}
-use Rattle.book.specs.Call.{replyRecord}
+use Rattle.book.specs.Call.{reply_record}
 use Rattle.book.proofs.Reply.record.Statement.{statement}
 use Rattle.book.proofs.Reply.record.Tie as tie
 
@@ -14,11 +14,11 @@ enum_told : tie.Need-enum-told
 enum_told c = search rules
 
 returns : tie.Need-returns
-unfolding replyRecord
+unfolding reply_record
 returns c = rw c.before.before.self.given.1 c.«record».ensures
 
 returns-2 : tie.Need-returns-2
-unfolding replyRecord
+unfolding reply_record
 returns-2 c = rw c.enum_told.given.1
 
 pub record-spec : {M : Type 1} → statement M

@@ -3,18 +3,18 @@ use mathlib.Core.Path.{sym, ◌∙◌}
 use native.Mathlib.Omega.{arith}
 use borrow.Author.Rules.{rules}
 use Rattle.point.specs.Point.{gauss}
-use Rattle.exponential.specs.Reduction.{inReach}
-use Rattle.exponential.proofs.Given.{rectangle-reaches}
+use Rattle.exponential.specs.Reduction.{in_reach}
+use Rattle.exponential.proofs.Given.{rectangle_reaches}
 use Rattle.exponential.proofs.reduction.is_in_reach.Statement.{statement}
 use Rattle.exponential.proofs.reduction.is_in_reach.Tie as tie
 
 returns : tie.Need-returns
 returns c =
     let n = c.before in
-    sym (rectangle-reaches 48 (gauss n.before.args.exponent) (omega arith) (sym n.is-near.ensures ∙ c.if1.true))
+    sym (rectangle_reaches 48 (gauss n.before.args.exponent) (omega arith) (sym n.is-near.ensures ∙ c.if1.true))
 
 returns-2 : tie.Need-returns-2
-unfolding inReach
+unfolding in_reach
 returns-2 c = c.is-in-box.ensures
 
 is-near-requires : tie.Need-is-near-requires

@@ -1,11 +1,11 @@
 -- `exponential::reduction::is_near` meets its contract.
 use borrow.Author.Rules.{rules}
-use Rattle.exponential.specs.Reduction.{inRectangle}
+use Rattle.exponential.specs.Reduction.{in_rectangle}
 use Rattle.exponential.proofs.reduction.is_near.Statement.{statement}
 use Rattle.exponential.proofs.reduction.is_near.Tie as tie
 
 returns : tie.Need-returns
-unfolding inRectangle
+unfolding in_rectangle
 returns c = c.is-in-box.ensures
 
 is-in-box-requires : tie.Need-is-in-box-requires

@@ -2,7 +2,7 @@
 use mathlib.Core.Path.{ap}
 use borrow.Author.Rules.{rules}
 use Rattle.algebra.specs.Gauss.{◌*ᵍ◌}
-use Rattle.algebra.proofs.Gauss.{g-mul-comm}
+use Rattle.algebra.proofs.Gauss.{g_mul_comm}
 use Rattle.word.proofs.Fits.{back}
 use Rattle.point.specs.Point.{gauss, gaussᵈ, point}
 use Rattle.point.proofs.Fits.{StepFits, step_fits}
@@ -17,7 +17,7 @@ unfolding ◌*ᵍ◌
 returns c =
     let a = c.before.before.before.before.args in
     let f = facts c in
-    simp (back, f.x, f.y, f.dx, f.dy, f.dx-x, f.dy-y, f.dx-y, f.dy-x, f.re, f.im) (ap point (g-mul-comm (gaussᵈ a.d) (gauss a.s)))
+    simp (back, f.x, f.y, f.dx, f.dy, f.dx_x, f.dy_y, f.dx_y, f.dy_x, f.re, f.im) (ap point (g_mul_comm (gaussᵈ a.d) (gauss a.s)))
 
 mul-t7 : tie.Need-overflow-mul-t7
 mul-t7 c = let f = facts c in search rules

@@ -3,8 +3,8 @@ use native.Mathlib.Omega.{arith}
 use lib.Count.{leading_le}
 use lib.IntN.{nat_abs}
 use Rattle.word.proofs.Fits.{back}
-use Rattle.logarithm.proofs.Scale.{bits-zeros}
-use Rattle.logarithm.proofs.Fits.{cast_fits, natAbs-pos}
+use Rattle.logarithm.proofs.Scale.{bits_zeros}
+use Rattle.logarithm.proofs.Fits.{cast_fits, nat_abs_pos}
 use Rattle.logarithm.proofs.reduction.bit_length.Statement.{statement}
 use Rattle.logarithm.proofs.reduction.bit_length.Tie as tie
 
@@ -18,7 +18,7 @@ sub-result : tie.Need-overflow-sub-result
 sub-result c = simp (back, c.ranges.x) (leading_le 64 (nat_abs c.args.x))
 
 returns : tie.Need-returns
-returns c = simp (back, c.ranges.x) (bits-zeros 64 (nat_abs c.args.x) (natAbs-pos c.args.x c.requires)
+returns c = simp (back, c.ranges.x) (bits_zeros 64 (nat_abs c.args.x) (nat_abs_pos c.args.x c.requires)
     (cast_fits c.args.x c.requires c.ranges.x).1.fits)
 
 pub bit-length-spec : {M : Type 1} → statement M

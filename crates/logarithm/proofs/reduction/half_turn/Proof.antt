@@ -5,7 +5,7 @@ use lib.IntN.{pos, neg_ℤ}
 use lib.Signed.{lt_z}
 use mir.Syntax.{w64}
 use mir.Val.{to_z, of_z}
-use Rattle.word.proofs.Fits.{back, sfits-mag}
+use Rattle.word.proofs.Fits.{back, sfits_mag}
 use Rattle.point.specs.Point.{gauss}
 use Rattle.logarithm.specs.Reduction.{spelling}
 use Rattle.logarithm.proofs.reduction.half_turn.Statement.{statement}
@@ -16,7 +16,7 @@ written : (c : tie.After-struct-told) (t : Bool) → lt_z (pos 0) (to_z w64 (of_
     cond t (neg_ℤ (pos 2)) (pos 2) ≡ spelling 2 (gauss c.before.args.w)
 unfolding spelling
 written c t e =
-    let y = back (sfits-mag c.before.args.w.y c.struct_told.given.1.0.1) in
+    let y = back (sfits_mag c.before.args.w.y c.struct_told.given.1.0.1) in
     ap (λ b. cond b (neg_ℤ (pos 2)) (pos 2)) (sym e ∙ ap (lt_z (pos 0)) y)
 
 returns : tie.Need-returns

@@ -4,12 +4,12 @@ use borrow.Author.Rules.{rules}
 use Rattle.algebra.specs.Gauss.{◌*ᵍ◌}
 use Rattle.algebra.specs.Rounding.{floorᵍ}
 use Rattle.word.proofs.Fits.{back}
-use Rattle.logarithm.proofs.Fits.{ReduceFits, reduce-fits}
+use Rattle.logarithm.proofs.Fits.{ReduceFits, reduce_fits}
 use Rattle.logarithm.proofs.reduction.reduced.Statement.{statement}
 use Rattle.logarithm.proofs.reduction.reduced.Tie as tie
 
 abbrev facts : (c : tie.After-struct-told4) → let s = c.before.before.before.before in ReduceFits s.args.p s.args.c
-facts c = reduce-fits (lit≤ tt) c.before.before.before.before.requires
+facts c = reduce_fits (lit≤ tt) c.before.before.before.before.requires
 
 mul-re : tie.Need-overflow-mul-re
 mul-re c = let f = facts c in search rules
@@ -31,7 +31,7 @@ add-im c = let f = facts c in search rules
 
 returns : tie.Need-returns
 unfolding ◌*ᵍ◌ floorᵍ
-returns c = let f = facts c in simp (back, f.x, f.y, f.a, f.b, f.ax, f.bY, f.aY, f.bx, f.re, f.im, f.over-re, f.over-im)
+returns c = let f = facts c in simp (back, f.x, f.y, f.a, f.b, f.ax, f.b_y, f.a_y, f.bx, f.re, f.im, f.over_re, f.over_im)
 
 pub reduced-spec : {M : Type 1} → statement M
 reduced-spec = tie.close (tie.spec mul-re mul-re-2 sub-re mul-im mul-im-2 add-im returns)

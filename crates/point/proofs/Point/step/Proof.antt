@@ -26,16 +26,16 @@ returns c =
       f.y,
       f.dx,
       f.dy,
-      f.dx-x,
-      f.dy-y,
-      f.dx-y,
-      f.dy-x,
+      f.dx_x,
+      f.dy_y,
+      f.dx_y,
+      f.dy_x,
       f.re,
       f.im,
-      f.quotient-re,
-      f.quotient-im,
-      f.new-x,
-      f.new-y,
+      f.quotient_re,
+      f.quotient_im,
+      f.new_x,
+      f.new_y,
     )
 
 -- ---- what the operations ask
@@ -50,11 +50,11 @@ sub-re c = let f = facts (start c) in search rules
 
 rounded-requires : tie.Need-rounded-requires
 rounded-requires c κs = let f = facts (start c) in
-    (simp (back, f.x, f.y, f.dx, f.dy, f.dx-x, f.dy-y, f.re) f.size-re, (start c).requires.1.1)
+    (simp (back, f.x, f.y, f.dx, f.dy, f.dx_x, f.dy_y, f.re) f.size_re, (start c).requires.1.1)
 
 add-new-x : tie.Need-overflow-add-new-x
 add-new-x c = let f = facts (start c.before) in
-    simp (back, c.rounded.ensures, f.x, f.y, f.dx, f.dy, f.dx-x, f.dy-y, f.re, f.quotient-re) f.new-x
+    simp (back, c.rounded.ensures, f.x, f.y, f.dx, f.dy, f.dx_x, f.dy_y, f.re, f.quotient_re) f.new_x
 
 mul-im : tie.Need-overflow-mul-im
 mul-im c = let f = facts (start c.before) in search rules
@@ -67,11 +67,11 @@ add-im c = let f = facts (start c.before) in search rules
 
 rounded-requires-2 : tie.Need-rounded-requires-2
 rounded-requires-2 c κs = let f = facts (start c.before) in
-    (simp (back, f.x, f.y, f.dx, f.dy, f.dx-y, f.dy-x, f.im) f.size-im, (start c.before).requires.1.1)
+    (simp (back, f.x, f.y, f.dx, f.dy, f.dx_y, f.dy_x, f.im) f.size_im, (start c.before).requires.1.1)
 
 add-new-y : tie.Need-overflow-add-new-y
 add-new-y c = let f = facts (start c.before.before) in
-    simp (back, c.rounded2.ensures, f.x, f.y, f.dx, f.dy, f.dx-y, f.dy-x, f.im, f.quotient-im) f.new-y
+    simp (back, c.rounded2.ensures, f.x, f.y, f.dx, f.dy, f.dx_y, f.dy_x, f.im, f.quotient_im) f.new_y
 
 pub step_spec : {M : Type 1} → statement M
 step_spec =

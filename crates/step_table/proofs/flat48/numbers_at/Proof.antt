@@ -1,15 +1,15 @@
 -- `step_table::flat48::numbers_at` meets its contract: in each arm the number is known, and the
 -- specification computes there to what the arm answers. Made by tests/tables/generate.py.
 use mathlib.Core.Path.{sym, ap}
-use Rattle.table_numbers.specs.Numbers48.{stepLogs}
-use Rattle.table_numbers.specs.Table.{stepTable}
-use Rattle.table_numbers.specs.Rows.{stepRow, row_at}
+use Rattle.table_numbers.specs.Numbers48.{step_logs}
+use Rattle.table_numbers.specs.Table.{step_table}
+use Rattle.table_numbers.specs.Rows.{step_row, row_at}
 use Rattle.table_numbers.proofs.RowLaws.{other_row}
 use Rattle.step_table.proofs.flat48.numbers_at.Statement.{statement}
 use Rattle.step_table.proofs.flat48.numbers_at.Tie as tie
 
 pub numbers-at-spec : {M : Type 1} → statement M
-unfolding stepRow stepTable stepLogs
+unfolding step_row step_table step_logs
 numbers-at-spec =
     tie.close
     (tie.spec
