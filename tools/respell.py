@@ -118,9 +118,13 @@ def main(argv):
         for line in t.splitlines():
             before.update(TOKEN.findall(parted(line)[0]))
 
-        def turn(m, kept=kept, t=t):
-            n = m.group(0)
-            if n in kept and t is not None and not m.string[: m.start()].endswith("."):
+        aliases = set(re.findall(r"^\s*(?:pub\s+)?(?:ghost\s+)?use\s+(?!Rattle\.(?!std\b))\S+\s+as\s+([^\s;]+)", t, re.M))
+
+        def turn(m, kept=kept, aliases=aliases):
+            n, front = m.group(0), m.string[: m.start()]
+            if n in kept and not front.endswith("."):
+                return n
+            if front.endswith(".") and re.split(r"[^\w.]", front[:-1])[-1] in aliases:
                 return n
             return turned.get(n, n)
 

@@ -34,7 +34,7 @@ module _ (R : Ring) where
   sum_head (suc n) f = ap (λ t. add t (f (suc n))) (sum_head n f) ∙ add_assoc (f 0) (sum n (λ j. f (suc j))) (f (suc n))
 
   pub sum_split : (m n : ℕ) (f : ℕ → A) → sum (m + n) f ≡ add (sum m f) (sum n (λ j. f (m + j)))
-  sum_split m zero f = ap (λ k. sum k f) (NatL.add_zero m) ∙ sym (add_zero (sum m f))
+  sum_split m zero f = ap (λ k. sum k f) (NatL.add-zero m) ∙ sym (add_zero (sum m f))
   sum_split m (suc n) f = ap (λ k. sum k f) (NatL.add-suc m n) ∙ ap (λ t. add t (f (m + n))) (sum_split m n f)
       ∙ add_assoc (sum m f) (sum n (λ j. f (m + j))) (f (m + n))
 

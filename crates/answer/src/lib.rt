@@ -1,4 +1,6 @@
 // What EXP and LOG answer: figures or a refusal, and the eight numbers of the record of them (01; 02, E7).
+#![tactic(auto)]
+
 ghost use Rattle.std.specs.Prelude.{◌≡◌};
 ghost use Rattle.answer.specs.Refusal.{refusal_number};
 ghost use Rattle.answer.specs.Record.{numbers, record_of};
@@ -6,7 +8,7 @@ ghost use Rattle.answer.specs.Record.{numbers, record_of};
 use point::Point;
 
 // Why an input is turned away, with its number in 01.
-#[derive(Drop)]
+#[derive(Clone, Copy)]
 pub enum Refusal {
     // 1: the count of steps is out of range
     Steps,
@@ -21,7 +23,7 @@ pub enum Refusal {
 // EXP: value times 2^binary_exponent is the start times the exponential of the exponent, nearly; quadrant is 0. LOG: value is the logarithm;
 // the point is 2^binary_exponent * i^quadrant * exp(value), nearly. error_bound says how nearly: in units, for EXP times 2^binary_exponent.
 // remainder is what the steps left over: for EXP the last exponent, for LOG the last point less one.
-#[derive(Drop)]
+#[derive(Clone, Copy)]
 pub struct Figures {
     pub value: Point,
     pub binary_exponent: i64,
@@ -30,7 +32,7 @@ pub struct Figures {
     pub remainder: Point,
 }
 
-#[derive(Drop)]
+#[derive(Clone, Copy)]
 pub enum Answer {
     Answered(Figures),
     Refused(Refusal),

@@ -1,4 +1,6 @@
 // Answers a sheet: standard input to standard output.
+#![tactic(auto)]
+
 ghost use Rattle.std.specs.Prelude.{true, ◌≡◌, ◌≤◌, length};
 ghost use Rattle.text.specs.Answer.{answer_room};
 ghost use Rattle.stream.specs.Machine.{cut, place_after};
@@ -8,7 +10,7 @@ use libc::{STDERR_FILENO, STDIN_FILENO, STDOUT_FILENO};
 use stream::Place;
 
 // What a block leads to: the place in the sheet, and whether its answers were written.
-#[derive(Drop)]
+#[derive(Clone, Copy)]
 struct Answered {
     place: Place,
     written: bool,

@@ -1,5 +1,7 @@
 // One account book for two institutes that call EXP and LOG through one installation (02, E10): each has a balance of steps, an answered call
 // is charged to its caller, and a refused one is free.
+#![tactic(auto)]
+
 ghost use Rattle.std.specs.Prelude.{◌≡◌, pos};
 ghost use Rattle.algebra.specs.Order.{◌⩽◌};
 ghost use Rattle.answer.specs.Remainder.{RemainderBelow};
@@ -17,7 +19,7 @@ const MOST: i64 = 1000000;
 
 // What each institute has left, in steps. A balance below 1, which an opening need not give, pays for nothing.
 #[repr(C)]
-#[derive(Drop)]
+#[derive(Clone, Copy)]
 pub struct Book {
     pub first: i64,
     pub second: i64,
@@ -25,33 +27,33 @@ pub struct Book {
 
 // The refusal number or 0, and the book.
 #[repr(C)]
-#[derive(Drop)]
+#[derive(Clone, Copy)]
 pub struct Opening {
     pub refusal: i64,
     pub book: Book,
 }
 
 // Number 1, ours, and number 2, the sister's.
-#[derive(Drop)]
+#[derive(Clone, Copy)]
 pub enum Institute {
     First,
     Second,
 }
 
-#[derive(Drop)]
+#[derive(Clone, Copy)]
 enum Caller {
     Is(Institute),
     Neither,
 }
 
 // What a call is replied: what EXP or LOG answers, or that the book does not allow it, which is refusal 10.
-#[derive(Drop)]
+#[derive(Clone, Copy)]
 pub enum Reply {
     Given(Answer),
     Denied,
 }
 
-#[derive(Drop)]
+#[derive(Clone, Copy)]
 pub struct Settled {
     pub reply: Reply,
     pub book: Book,

@@ -47,6 +47,15 @@ both xs ys e = ap length e ∙ length-append xs ys
 pub to_front : {b xs b' : List ℕ} {end : ℕ} → Put b 0 xs b' end → length xs ≤ length b → Front xs b b' end
 to_front {b} {xs} p h = record { bytes = p.bytes ∙ (sets-eq xs b 0 (rw zero-add h) ∙ rw zero-add); count = omega (arith, p.after) }
 
+-- bytes copied into the part of a buffer that they fill
+pub copied : (b : List ℕ) (at : ℕ) (xs : List ℕ) {part : List ℕ} → at + length xs ≤ length b → part ≡ xs →
+    Put b at xs (put_mid at (at + length xs - at) b part) (at + length xs)
+copied b at xs {part} h e = record {
+  bytes = rw (e, Post-is at (at + length xs) b (omega arith))
+      (sym (append_assoc (take at b) xs (drop (at + length xs) b)) ∙ sym (sets-eq xs b at h));
+  after = refl;
+}
+
 -- ---- a run from the front of a part that goes to the buffer's end is a run in the whole
 module _ (b : List ℕ) (at : ℕ) (h : at ≤ length b) where
   pub rest : mid_of at (length b - at) b ≡ drop at b

@@ -1,5 +1,7 @@
 // Numbers, words and lines written into lent buffers: each from `at` on, and back comes the place behind what was written. Every public
 // function is total: what does not fit whole into a buffer is not written at all.
+#![tactic(auto)]
+
 ghost use Rattle.std.specs.Prelude.{◌≡◌, true, ◌+◌, ◌*◌, ◌≤◌, ◌<◌, leb, nat_abs, length};
 ghost use Rattle.std.proofs.lemmas.List.Edits.{sets};
 ghost use Rattle.std.specs.Int.{w64};
@@ -120,7 +122,9 @@ fn write_bytes(word: &[u8], out: &mut [u8], at: usize) -> usize
     requires { at + length word.now ≤ length out.old }
     ensures { Put out.old at word.now out.new result }
 {
-    at + bytes::copy(word, &mut out[at..])
+    let end = at + word.len();
+    out[at..end].copy_from_slice(word);
+    end
 }
 
 // Each number behind a tab.

@@ -2,6 +2,8 @@
 // account book; LOG in doubles, and doubles read back; a line of a sheet; two sheets merged, and which lines such a merge refuses; an entry
 // of the step table.
 // include/bkm.h is the contract in plain words.
+#![tactic(auto)]
+
 ghost use Rattle.std.specs.Prelude.{◌≡◌, ◌++◌, pos, length, drop};
 ghost use Rattle.answer.specs.Record.{record_of};
 ghost use Rattle.table_numbers.specs.Table.{step_table};
@@ -83,7 +85,7 @@ pub extern "C" fn bkm_book_open(first: i64, second: i64) -> Opening
 
 // What a call through the book gives: the record of an answer and the new book.
 #[repr(C)]
-#[derive(Drop)]
+#[derive(Clone, Copy)]
 pub struct BookAnswer {
     pub record: [i64; 8],
     pub book: Book,

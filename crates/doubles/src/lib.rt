@@ -1,4 +1,6 @@
 // Doubles for the plotting desk (02, E8): LOG's two parts out as doubles, and such doubles read back.
+#![tactic(auto)]
+
 ghost use Rattle.std.specs.Prelude.{◌≡◌, ◌^◌, ◌<◌, unsigned_abs};
 ghost use Rattle.logarithm.specs.Answer.{log_answer};
 ghost use Rattle.doubles.specs.Units.{double_of};
@@ -10,7 +12,7 @@ use point::Point;
 
 // Two parts, each over 2^48.
 #[repr(C)]
-#[derive(Drop)]
+#[derive(Clone, Copy)]
 pub struct Doubles {
     pub x: f64,
     pub y: f64,
@@ -18,7 +20,7 @@ pub struct Doubles {
 
 // LOG's answer: the refusal number or 0, and the two parts.
 #[repr(C)]
-#[derive(Drop)]
+#[derive(Clone, Copy)]
 pub struct DoublesAnswer {
     pub refusal: i64,
     pub parts: Doubles,
@@ -26,7 +28,7 @@ pub struct DoublesAnswer {
 
 // Two doubles that were read: 9 or 0, and the two parts in units.
 #[repr(C)]
-#[derive(Drop)]
+#[derive(Clone, Copy)]
 pub struct UnitsAnswer {
     pub refusal: i64,
     pub x: i64,
@@ -34,7 +36,7 @@ pub struct UnitsAnswer {
 }
 
 // One double that was read: a whole number of units, or any other.
-#[derive(Drop)]
+#[derive(Clone, Copy)]
 enum Part {
     Whole(i64),
     Other,

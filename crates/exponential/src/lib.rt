@@ -1,4 +1,6 @@
 // EXP: a start times the exponential of a number, by shifts and additions in a rectangle; outside it, up to eight, after a reduction.
+#![tactic(auto)]
+
 ghost use Rattle.std.specs.Prelude.{◌≡◌, ◌≤◌};
 ghost use Rattle.algebra.specs.Size.{Size, Parts, abs, larger};
 ghost use Rattle.algebra.specs.Gauss.{two};
@@ -46,7 +48,7 @@ fn error_bound(n: usize, s: Point) -> i64
 }
 
 // What the tests of an input say.
-#[derive(Drop)]
+#[derive(Clone, Copy)]
 enum Verdict {
     Passed,
     Failed(Refusal),

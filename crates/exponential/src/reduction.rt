@@ -20,7 +20,7 @@ const LN_2: i64 = 195103586505167;
 const HALF_LN_2: i64 = 97551793252584;
 
 // What the steps are given; their answer is times 2^binary_exponent.
-#[derive(Drop)]
+#[derive(Clone, Copy)]
 pub struct Reduced {
     pub exponent: Point,
     pub start: Point,

@@ -1,4 +1,6 @@
 // LOG: the logarithm of any point but zero, as a number, a binary exponent and a quadrant (01, LOG).
+#![tactic(auto)]
+
 ghost use Rattle.std.specs.Prelude.{◌≡◌, pos};
 ghost use Rattle.algebra.specs.Gauss.{◌-ᵍ◌, two};
 ghost use Rattle.algebra.specs.Size.{Parts};

@@ -18,7 +18,7 @@ use table_numbers::Entry;
 // ---- the turn
 
 // A point turned into the cone -x < y <= x, and the quarter turns that lead from there back, as q is written.
-#[derive(Drop)]
+#[derive(Clone, Copy)]
 pub struct Turn {
     pub point: Point,
     pub quadrant: i64,

@@ -1,4 +1,6 @@
 // Two sheets merged into one whose serials rise, each line copied unchanged.
+#![tactic(auto)]
+
 ghost use Rattle.std.specs.Prelude.{◌≡◌, [], ◌∷◌, ◌++◌, ◌+◌, ◌≤◌, ltb, pos, length, drop};
 ghost use Rattle.scan.specs.Fields.{same_bytes};
 ghost use Rattle.buffer.specs.Code.{Put};
@@ -10,7 +12,7 @@ ghost use Rattle.merge.specs.Call.{first_line, behind, unread, text, refusal_for
 use scan::Number;
 
 // The line in front of what is left of a sheet, behind a line that was read.
-#[derive(Drop)]
+#[derive(Clone, Copy)]
 pub enum Front {
     // there is none
     End,
@@ -22,7 +24,7 @@ pub enum Front {
 }
 
 // What the merge does next, with the serial of the line that it reads.
-#[derive(Drop)]
+#[derive(Clone, Copy)]
 pub enum Choice {
     // no line is left
     Done,
@@ -37,7 +39,7 @@ pub enum Choice {
 }
 
 // What a merge gives: the refusal number or 0, and how many bytes it wrote.
-#[derive(Drop)]
+#[derive(Clone, Copy)]
 pub struct Merged {
     pub refusal: i64,
     pub written: usize,

@@ -1,4 +1,6 @@
 // Which line of which sheet stops a merge of two sheets. A walk of its own, so that a merge counts no lines.
+#![tactic(auto)]
+
 ghost use Rattle.std.specs.Prelude.{◌≡◌, pos};
 ghost use Rattle.merge.specs.Merge.{merge};
 ghost use Rattle.merge_stop.specs.Stop.{named, stop};
@@ -7,7 +9,7 @@ use merge::{Choice, Front};
 
 // Where a merge stops: the refusal number or 0, and of each sheet the line that is refused, counted from 1, or 0 where it is none of that sheet.
 #[repr(C)]
-#[derive(Drop)]
+#[derive(Clone, Copy)]
 pub struct Stop {
     pub refusal: i64,
     pub first: usize,

@@ -1,6 +1,8 @@
 // EXP by a register (02, E9): the doubled form of 000, as the sorter's maker builds it. Before step n the register holds 2^n times the
 // exponent, so that the digits are read off it by the same thresholds at every step, and it takes the table's entries times 2^(n + 1). A
 // simple engine over the step table's array; what it is given, and what is refused, is EXP's own.
+#![tactic(auto)]
+
 ghost use Rattle.std.specs.Prelude.{◌≡◌, pos, ◌<◌, ◌^◌};
 ghost use Rattle.algebra.specs.Gauss.{ιᵍ, ◌*ᵍ◌, two};
 ghost use Rattle.algebra.specs.Rounding.{floorᵍ};

@@ -1,5 +1,7 @@
 // Bytes read from lent buffers: where a byte stands, numbers and words that a part of a slice is, and numbers from fields. Every public
 // function is total: a part of a slice is cut to the slice.
+#![tactic(auto)]
+
 ghost use Rattle.std.specs.Prelude.{◌≡◌, ◌+◌, ◌≤◌, min, length};
 ghost use Rattle.std.proofs.Math.Seq.{slice};
 ghost use Rattle.scan.specs.Decimal.{read_natural, read_number};
@@ -9,35 +11,35 @@ ghost use Rattle.scan.specs.Numbers.{numbers, are_there, stored};
 ghost use Rattle.scan.specs.Code.{ends_at, Worth, UpToTab};
 
 // A size that stands in a field, or none.
-#[derive(Drop)]
+#[derive(Clone, Copy)]
 enum Natural {
     Is(u64),
     Not,
 }
 
 // A number that stands in a field, or none.
-#[derive(Drop)]
+#[derive(Clone, Copy)]
 pub enum Number {
     Is(i64),
     Not,
 }
 
 // Digits: what they are worth, and the place behind them.
-#[derive(Drop)]
+#[derive(Clone, Copy)]
 struct Digits {
     value: u64,
     end: usize,
 }
 
 // A size or none, and where the field ends if it is one.
-#[derive(Drop)]
+#[derive(Clone, Copy)]
 struct NaturalField {
     natural: Natural,
     end: usize,
 }
 
 // A number or none, and where the field ends if it is one.
-#[derive(Drop)]
+#[derive(Clone, Copy)]
 struct NumberField {
     number: Number,
     end: usize,

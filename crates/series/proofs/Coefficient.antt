@@ -18,7 +18,7 @@ co U n k = rise U k (n - k)
 module _ (U : ℕ) where
   rise_D : (k d : ℕ) → rise U k d * D U k ≡ D U (k + d)
   unfolding rise D
-  rise_D k zero = omega (arith, ap (D U) (NatL.add_zero k))
+  rise_D k zero = omega (arith, ap (D U) (NatL.add-zero k))
   rise_D k (suc d) = omega (arith, ap (D U) (NatL.add-suc k d), ap (λ t. U * suc (k + d) * t) (rise_D k d))
 
   pub co_D : (n k : ℕ) → k ≤ n → co U n k * D U k ≡ D U n
@@ -34,13 +34,13 @@ module _ (U : ℕ) where
   choose_D zero zero zero e = refl
   choose_D zero zero (suc j) e = absurd (omega arith)
   choose_D zero (suc i) j e = absurd (omega arith)
-  choose_D (suc k) zero j e = omega (arith, ap (D U) (sym (NatL.zero_add j) ∙ e))
+  choose_D (suc k) zero j e = omega (arith, ap (D U) (sym (NatL.zero-add j) ∙ e))
   choose_D (suc k) (suc i) zero e = omega (
     arith,
     ap (λ t. t * (U * suc i)) (choose_D k i 0 (omega arith)),
     ap (λ t. t * (D U (suc i) * D U 0))
         (choose_over k (suc i) (omega arith)),
-    ap (λ t. U * D U k * t) (sym (NatL.add_zero (suc i)) ∙ e),
+    ap (λ t. U * D U k * t) (sym (NatL.add-zero (suc i)) ∙ e),
   )
   choose_D (suc k) (suc i) (suc j) e = omega (
     arith,

@@ -1,4 +1,6 @@
 // The step table as the array that 01 names (What form to use where), over the same named rows as the look-up.
+#![tactic(auto)]
+
 ghost use Rattle.std.specs.Prelude.{◌≡◌};
 ghost use Rattle.table_numbers.specs.Rows.{step_row, RowPromise};
 

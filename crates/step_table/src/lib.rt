@@ -1,5 +1,7 @@
 // The step table in code: its named rows, and the look-up that the engines use. The array that 01 names is made of the same rows
 // (step_array); a constant array is written to the stack at each call that mentions it, so the engines take their rows from the look-up.
+#![tactic(auto)]
+
 ghost use Rattle.std.specs.Prelude.{◌≡◌};
 ghost use Rattle.table_numbers.specs.Rows.{row_at};
 

@@ -1,4 +1,6 @@
 // A sheet fed in pieces of any size: a place in it goes in and comes back by value.
+#![tactic(auto)]
+
 ghost use Rattle.std.specs.Prelude.{◌≡◌, ◌++◌, ◌≤◌, length, take, drop};
 ghost use Rattle.std.proofs.Math.Seq.{slice};
 ghost use Rattle.text.specs.Answer.{answer_room};
@@ -13,13 +15,13 @@ use text::{ANSWER_ROOM, LineAnswer};
 const KEPT: usize = 117;
 
 // What the answer to a line takes from the lines before it: the largest serial of those that have the form, 0 if there is none.
-#[derive(Drop)]
+#[derive(Clone, Copy)]
 pub struct State {
     largest: i64,
 }
 
 // A place in a sheet: the state there, and of the line that has begun what is kept.
-#[derive(Drop)]
+#[derive(Clone, Copy)]
 pub struct Place {
     state: State,
     bytes: [u8; KEPT],
@@ -27,7 +29,7 @@ pub struct Place {
 }
 
 // What a piece does: the place that it leads to, and how many bytes were read and written.
-#[derive(Drop)]
+#[derive(Clone, Copy)]
 pub struct Fed {
     pub place: Place,
     pub read: usize,
@@ -35,7 +37,7 @@ pub struct Fed {
 }
 
 // What a line does: the state in which the next one is answered, and how many bytes were written.
-#[derive(Drop)]
+#[derive(Clone, Copy)]
 struct Answered {
     state: State,
     written: usize,

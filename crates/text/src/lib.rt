@@ -1,4 +1,6 @@
 // Lines of a sheet: a line read, and a read line answered.
+#![tactic(auto)]
+
 ghost use Rattle.std.specs.Prelude.{◌≡◌, pos};
 ghost use Rattle.scan.specs.Fields.{fields_at};
 ghost use Rattle.scan.specs.Numbers.{numbers};
@@ -15,14 +17,14 @@ use scan::Number;
 pub const ANSWER_ROOM: usize = 128;
 
 // The operation that a line asks for.
-#[derive(Drop)]
+#[derive(Clone, Copy)]
 enum Kind {
     Exp,
     Log,
 }
 
 // A line of a sheet.
-#[derive(Drop)]
+#[derive(Clone, Copy)]
 pub enum Line {
     Exp {
         serial: i64,
@@ -57,7 +59,7 @@ impl Line {
 }
 
 // What the call of a line gives: the refusal number or 0, and how many bytes it wrote.
-#[derive(Drop)]
+#[derive(Clone, Copy)]
 pub struct LineAnswer {
     pub refusal: i64,
     pub written: usize,

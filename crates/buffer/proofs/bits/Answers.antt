@@ -1,0 +1,17 @@
+-- `buffer::bits` meets its contract.
+use mathlib.Core.Path.{◌≡◌, sym, ◌∙◌}
+use lib.Signed.{mag}
+use Rattle.word.proofs.Fits.{back}
+use Rattle.word.proofs.Bits.{negative, nonnegative}
+use Rattle.buffer.proofs.bits.Goals as goal
+use Rattle.buffer.proofs.bits.Goals.{After-magnitude-m}
+
+made : (c : After-magnitude-m) → c.magnitude-m.result ≡ mag c.before.args.z
+made c = simp (back, c.before.ranges.z) at c.magnitude-m.ensures
+
+pub returns-then-z-lt0 : goal.returns-then-z-lt0
+returns-then-z-lt0 c = let f = c.before.before.ranges.z in rw (made c.before) (negative f (simp (back, f) at c.if-z-lt0.true)).bits
+
+pub returns-else-z-lt0 : goal.returns-else-z-lt0
+returns-else-z-lt0 c = let f = c.before.before.ranges.z in let n = nonnegative f (simp (back, f) at c.if-z-lt0.false) in made c.before
+    ∙ (sym n.same ∙ n.bits)
