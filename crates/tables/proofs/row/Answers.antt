@@ -20,14 +20,17 @@ digit c = let s = c.before.before.before in
     trit_of s.args.dx (simp (back, s.ranges.dx) at (sym c.before.is_between.ensures ∙ c.if-not-is_between.false))
 
 pub returns-then-n-gt40 : goal.returns-then-n-gt40
-returns-then-n-gt40 c = let s = c.before in row_kept s.args.n s.args.dx (no_step s.args.n s.args.dx (inr (search rules)))
+returns-then-n-gt40 c =
+    let both = row_kept c.args.n c.args.dx (no_step c.args.n c.args.dx (inr (search rules))) in
+    record { value = both.0; promise = both.1 }
 
 pub returns-then-not-is_between : goal.returns-then-not-is_between
 returns-then-not-is_between c =
     let s = c.before.before.before in
     let t : between (negsuc 0) (pos 1) s.args.dx ≡ false = simp (back, s.ranges.dx) at
     (sym c.before.is_between.ensures ∙ c.if-not-is_between.true) in
-    row_kept s.args.n s.args.dx (no_digit s.args.n s.args.dx t)
+    let both = row_kept s.args.n s.args.dx (no_digit s.args.n s.args.dx t) in
+    record { value = both.0; promise = both.1 }
 
 pub overflow_add-dx : goal.overflow_add-dx
 overflow_add-dx c = next_fits (digit c)
