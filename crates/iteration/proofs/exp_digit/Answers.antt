@@ -12,8 +12,7 @@ use Rattle.algebra.specs.Gauss.{two}
 use Rattle.word.proofs.Fits.{back, sfits_mag}
 use Rattle.iteration.specs.Select.{cut, exp_select}
 use Rattle.iteration.proofs.Fits.{sixteenth_word, times_fits, low_x_is, high_x_is, low_y_is}
-use Rattle.iteration.proofs.exp_digit.Statement.{statement}
-use Rattle.iteration.proofs.exp_digit.Tie as tie
+use Rattle.iteration.proofs.exp_digit.Goals as goal
 
 -- a 16th of 1/2^n in units, and so many of them, as the machine holds them
 module _ (n : ℕ) (h : n ≤ 40) where
@@ -32,57 +31,32 @@ module _ (n : ℕ) (h : n ≤ 40) where
     held e = back fits ∙ (ap (λ u. c *ℤ u) unit_is ∙ e)
 
 -- ---- the contract
-returns : tie.Need-returns
+pub returns : goal.returns
 unfolding exp_select
 returns c =
     let b = c.before in
     let s = b.before.before.before in
     let n = s.args.n in
-    let x = back (sfits_mag s.args.sum.x b.before.before.struct_told.given.0.1) in
-    let y = back (sfits_mag s.args.sum.y b.before.struct-told2.given.1.0.1) in
+    let x = back (sfits_mag s.args.sum.x b.before.before.struct_told-1.given.0.1) in
+    let y = back (sfits_mag s.args.sum.y b.before.struct_told-2-1.given.1.0.1) in
     let low_x = held n s.requires (negsuc 7) tt tt (low_x_is 48 n (omega arith) (omega arith)) in
     let high_x = held n s.requires (pos 6) tt tt (high_x_is 48 n (omega arith) (omega arith)) in
     let low_y = held n s.requires (negsuc 11) tt tt (low_y_is 48 n (omega arith) (omega arith)) in
     let high_y = held n s.requires (pos 13) tt tt refl in
-    let dx = back (sfits_mag b.cut.result b.cut.type-inv) ∙ (b.cut.ensures ∙ (λ i. cut (low_x i) (high_x i) (x i))) in
-    let dy = back (sfits_mag c.cut2.result c.cut2.type-inv) ∙ (c.cut2.ensures ∙ (λ i. cut (low_y i) (high_y i) (y i))) in
+    let dx = back (sfits_mag b.cut.result b.cut.type_inv) ∙ (b.cut.ensures ∙ (λ i. cut (low_x i) (high_x i) (x i))) in
+    let dy = back (sfits_mag c.cut-2.result c.cut-2.type_inv) ∙ (c.cut-2.ensures ∙ (λ i. cut (low_y i) (high_y i) (y i))) in
     λ i. record { dx = dx i; dy = dy i }
 
 -- ---- the needs
-cast_t : tie.Need-overflow-cast-t
-cast_t c = search rules
 
-shr-t : tie.Need-overflow-shr-t
-shr-t c = search rules
+pub overflow_mul-t : goal.overflow_mul-t
+overflow_mul-t c = let s = c.before.before in fits s.args.n s.requires (negsuc 7) tt tt
 
-mul-cut : tie.Need-overflow-mul-cut
-mul-cut c = let s = c.before.before in fits s.args.n s.requires (negsuc 7) tt tt
+pub overflow_mul-t-2 : goal.overflow_mul-t-2
+overflow_mul-t-2 c = let s = c.before.before in fits s.args.n s.requires (pos 6) tt tt
 
-mul-cut-2 : tie.Need-overflow-mul-cut-2
-mul-cut-2 c = let s = c.before.before in fits s.args.n s.requires (pos 6) tt tt
+pub overflow_mul-t-3 : goal.overflow_mul-t-3
+overflow_mul-t-3 c = let s = c.before.before.before in fits s.args.n s.requires (negsuc 11) tt tt
 
-cut-requires : tie.Need-cut-requires
-cut-requires c κs = search rules
-
-mul-cut-3 : tie.Need-overflow-mul-cut-3
-mul-cut-3 c = let s = c.before.before.before in fits s.args.n s.requires (negsuc 11) tt tt
-
-mul-cut-4 : tie.Need-overflow-mul-cut-4
-mul-cut-4 c = let s = c.before.before.before in fits s.args.n s.requires (pos 13) tt tt
-
-cut-requires-2 : tie.Need-cut-requires-2
-cut-requires-2 c κs = search rules
-
-pub exp-digit-spec : {M : Type 1} → statement M
-exp-digit-spec =
-    tie.close
-    (tie.spec
-    cast_t
-    shr-t
-    mul-cut
-    mul-cut-2
-    cut-requires
-    mul-cut-3
-    mul-cut-4
-    cut-requires-2
-    returns)
+pub overflow_mul-t-4 : goal.overflow_mul-t-4
+overflow_mul-t-4 c = let s = c.before.before.before in fits s.args.n s.requires (pos 13) tt tt
