@@ -93,8 +93,8 @@ fn times(s: Point, d: Digit) -> Point
 
 // Outside the rectangle. p and k are 16 more than they are, which changes neither p modulo 8 nor whether it is odd.
 fn brought_back(exponent: Point, start: Point) -> Reduced
-    requires parts { Parts (gauss exponent) (two 51) }
-    requires parts_2 { Parts (gauss start) (two 58) }
+    requires exponent_parts { Parts (gauss exponent) (two 51) }
+    requires start_parts { Parts (gauss start) (two 58) }
     ensures { result ≡ reduced constants48 (gauss exponent) (gauss start) }
 {
     let x = exponent.x;
@@ -118,8 +118,8 @@ fn brought_back(exponent: Point, start: Point) -> Reduced
 
 // Within the rectangle nothing is changed.
 pub fn reduce(exponent: Point, start: Point) -> Reduced
-    requires parts { Parts (gauss exponent) (two 51) }
-    requires parts_2 { Parts (gauss start) (two 58) }
+    requires exponent_parts { Parts (gauss exponent) (two 51) }
+    requires start_parts { Parts (gauss start) (two 58) }
     ensures { result ≡ reduction 48 constants48 (gauss exponent) (gauss start) }
 {
     if is_near(exponent) {

@@ -7,25 +7,21 @@ use borrow.Author.Rules.{rules}
 use Rattle.algebra.specs.Gauss.{◌+ᵍ◌, negᵍ, two}
 use Rattle.word.proofs.Fits.{back}
 use Rattle.logarithm.proofs.Fits.{less_one_fits}
-use Rattle.logarithm.proofs.less_one.Statement.{statement}
-use Rattle.logarithm.proofs.less_one.Tie as tie
+use Rattle.logarithm.proofs.less_one.Goals as goal
 
 -- ---- the contract, part by part, so that a refusal names what was taken off
 less : (a : ℤ) {x : ℤ} → SFits w64 x → SFits w64 (x -ℤ a) → to_z w64 (of_z w64 (to_z w64 (of_z w64 x) -ℤ a)) ≡ x -ℤ a
 less a f g = ap (λ u. to_z w64 (of_z w64 (u -ℤ a))) (back f) ∙ back g
 
-returns : tie.Need-returns
+pub returns : goal.returns
 unfolding ◌+ᵍ◌ negᵍ
 returns c =
     let f = less_one_fits c.before.before.before.before.requires in
     λ i. record { x = less (two 48) f.x f.less_x i; y = less (pos 0) f.y f.less_y i }
 
 -- ---- what the operations ask
-sub-t7 : tie.Need-overflow-sub-t7
-sub-t7 c = let f = less_one_fits c.before.before.before.before.requires in search rules
+pub overflow_sub-result : goal.overflow_sub-result
+overflow_sub-result c = let f = less_one_fits c.before.before.before.before.requires in search rules
 
-sub-t8 : tie.Need-overflow-sub-t8
-sub-t8 c = let f = less_one_fits c.before.before.before.before.requires in search rules
-
-pub less-one-spec : {M : Type 1} → statement M
-less-one-spec = tie.close (tie.spec sub-t7 sub-t8 returns)
+pub overflow_sub-result-2 : goal.overflow_sub-result-2
+overflow_sub-result-2 c = let f = less_one_fits c.before.before.before.before.requires in search rules

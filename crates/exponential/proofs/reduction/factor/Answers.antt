@@ -9,8 +9,7 @@ use Rattle.algebra.specs.Gauss.{𝔾}
 use Rattle.point.specs.Point.{nought}
 use Rattle.table_numbers.proofs.Match.{Rests, past}
 use Rattle.exponential.specs.Reduction.{eight}
-use Rattle.exponential.proofs.reduction.factor.Statement.{statement}
-use Rattle.exponential.proofs.reduction.factor.Tie as tie
+use Rattle.exponential.proofs.reduction.factor.Goals as goal
 
 abbrev at : ℕ → 𝔾
 at i = get_or eight i nought
@@ -18,16 +17,3 @@ at i = get_or eight i nought
 -- none of the first seven
 last : (p : ℕ) → Rests 0 (p % 8) 7 → p % 8 ≡ 7
 last p h = omega (arith, past 0 (p % 8) 7 (omega arith) h, mod-lt p {m = 8} (lit< tt))
-
-pub factor-spec : {M : Type 1} → statement M
-factor-spec =
-    tie.close
-    (tie.spec
-    (λ c. ap at (sym c.match.keys1))
-    (λ c. ap at (sym c.match.keys2))
-    (λ c. ap at (sym c.match.keys3))
-    (λ c. ap at (sym c.match.keys4))
-    (λ c. ap at (sym c.match.keys5))
-    (λ c. ap at (sym c.match.keys6))
-    (λ c. ap at (sym c.match.keys7))
-    (λ c. ap at (sym (last c.before.args.p c.match.rest))))

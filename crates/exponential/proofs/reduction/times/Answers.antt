@@ -1,0 +1,38 @@
+-- `exponential::reduction::times` meets its contract: its products are those of a step by the same digit.
+use mathlib.Core.Path.{ap}
+use borrow.Author.Rules.{rules}
+use Rattle.algebra.specs.Gauss.{◌*ᵍ◌}
+use Rattle.algebra.proofs.Gauss.{g_mul_comm}
+use Rattle.word.proofs.Fits.{back}
+use Rattle.point.specs.Point.{gauss, gaussᵈ, point}
+use Rattle.point.proofs.Fits.{StepFits, step_fits}
+use Rattle.exponential.proofs.reduction.times.Goals as goal
+use Rattle.exponential.proofs.reduction.times.Goals.{After-struct_told-4-1}
+
+abbrev facts : (c : After-struct_told-4-1) → let s = c.before.before.before.before in StepFits 0 (gaussᵈ s.args.d) (gauss s.args.s)
+facts c = let s = c.before.before.before.before in step_fits 0 s.requires.digit s.requires.parts
+
+pub returns : goal.returns
+unfolding ◌*ᵍ◌
+returns c =
+    let a = c.before.before.before.before.args in
+    let f = facts c in
+    simp (back, f.x, f.y, f.dx, f.dy, f.dx_x, f.dy_y, f.dx_y, f.dy_x, f.re, f.im) (ap point (g_mul_comm (gaussᵈ a.d) (gauss a.s)))
+
+pub overflow_mul-result : goal.overflow_mul-result
+overflow_mul-result c = let f = facts c in search rules
+
+pub overflow_mul-result-2 : goal.overflow_mul-result-2
+overflow_mul-result-2 c = let f = facts c in search rules
+
+pub overflow_sub-result : goal.overflow_sub-result
+overflow_sub-result c = let f = facts c in search rules
+
+pub overflow_mul-result-3 : goal.overflow_mul-result-3
+overflow_mul-result-3 c = let f = facts c in search rules
+
+pub overflow_mul-result-4 : goal.overflow_mul-result-4
+overflow_mul-result-4 c = let f = facts c in search rules
+
+pub overflow_add-result : goal.overflow_add-result
+overflow_add-result c = let f = facts c in search rules
