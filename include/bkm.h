@@ -1,7 +1,7 @@
 /* EXP and LOG of points in units of 1/2^48, EXP by the register too, LOG in doubles, the lines of a
  * sheet, and two sheets merged into one: the C face of the library.
  *
- * Link target/staticlib/libcontroller.a, which `rt staticlib controller` writes.
+ * Link target/staticlib/libcontroller.a, which `bash tools/build library` makes.
  *
  * A point is a pair of signed 64-bit numbers of units, so one is 281474976710656.
  *

@@ -2,7 +2,7 @@
 """Holds the house to its order; the gate fails where it does not hold.
 
 1. What must be believed rests on definitions alone: no file of specs/ and no contract cites a module of proofs/, of any crate, by a `use`
-   or by a name written out.
+   or by a name written out. The library's own proofs/ pass some of its definitions on, and these few may be cited there.
 2. Nothing is kept that serves nobody: what no source, specification or proof cites outside its own definition is a result for a reader, and
    docs/GUIDE.md names it, or it is to go. A public function that no other source calls is for a caller, and docs/GUIDE.md names it.
 3. README.md says how many lines there are to believe: the specs/ of all crates, imports, `mod` and blank lines aside, but for Code.antt,
@@ -17,6 +17,14 @@ ROOT = pathlib.Path(__file__).resolve().parent.parent
 MARKS = {"abbrev", "unfoldable", "pub"}
 NOT_NAMES = {"use", "mod", "module", "open", "unfolding", "infix", "infixl", "infixr", "where", "let", "in"}
 LISTED = {"Numbers48.antt"}
+# What a function's proof answers and states stands under the names of its goals.
+OF_GOALS = {"Answers.antt", "Invariants.antt", "Proof.antt"}
+# Definitions of the library that stand in none of its specs/, by the module of its proofs/ that passes them on.
+PASSED_ON = {
+    "Common": {"Fits", "SFits", "of_z", "to_z"},
+    "Math.Seq": {"slice"},
+    "lemmas.List.Edits": {"sets"},
+}
 
 
 def read(path):
@@ -34,12 +42,18 @@ def believed():
     return lines
 
 
+def is_passed_on(cited):
+    """Whether a name of a module of proofs/, with what a `use` takes of it, is a definition of the library that it passes on."""
+    module = re.fullmatch(r"Rattle\.std\.proofs\.([\w.]+?)\.(?:\{([^}]*)\}|([^\s.{}]+))", cited)
+    return bool(module) and {name.split()[0] for name in (module[2] or module[3]).split(",")} <= PASSED_ON.get(module[1], set())
+
+
 def resting_on_proofs():
-    """A module of proofs/, wherever it is named outside a comment; what the code declares stands there too and is no proof."""
-    cite = re.compile(r"Rattle·\w+(?:·proofs)?\.proofs\.(?!(?:\w+\.)*declared\.)")
+    """A module of proofs/, wherever it is named outside a comment."""
+    cite = re.compile(r"Rattle\.\w+\.proofs\b(?:\.\{[^}]*\}|[^\s(){};,])*")
     files = sorted(ROOT.glob("crates/*/specs/**/*.antt")) + sorted(ROOT.glob("crates/*/src/**/*.rt"))
     return [f"{p.relative_to(ROOT)}: {line.strip()}" for p in files for line in read(p).split("\n")
-            if cite.search(re.split(r"(?:^|\s)(?:--|//)", line)[0])]
+            if not all(map(is_passed_on, cite.findall(re.split(r"(?:^|\s)(?:--|//)", line)[0])))]
 
 
 def uncalled():
@@ -59,13 +73,13 @@ def uncalled():
 
 
 def words(text):
-    """The words of a text, and what a name with places in it, as _+_, is made of."""
+    """The words of a text, and what a name with places in it, as ◌+◌, is made of."""
     found = set()
     for line in text.split("\n"):
         line = line.strip()
         if line.startswith(("--", "//", "use ", "ghost use ")):
             continue
-        for word in re.split(r"[\s(){},;⌜⌝⟦⟧«»]+", line):
+        for word in re.split(r"[\s(){},;⟦⟧«»]+", line):
             found.add(word)
             found.update(word.split("."))
     return found
@@ -103,9 +117,9 @@ def blocks(text):
 def uncited():
     named = set(re.findall(r"`([^`]+)`", read(ROOT / "docs/GUIDE.md")))
     pieces = []  # (file, name, words)
-    for path in sorted(ROOT.glob("crates/**/*.antt")):
+    for path in sorted([*ROOT.glob("crates/*/specs/**/*.antt"), *ROOT.glob("crates/*/proofs/**/*.antt")]):
         pieces += [(path, name, words(block)) for name, block in blocks(read(path))]
-    for path in sorted(ROOT.glob("crates/**/*.rt")):
+    for path in sorted(ROOT.glob("crates/*/src/**/*.rt")):
         pieces.append((path, None, words(read(path))))
     where = {}
     for index, (_, _, found) in enumerate(pieces):
@@ -113,9 +127,9 @@ def uncited():
             where.setdefault(word, set()).add(index)
     stray = []
     for index, (path, name, _) in enumerate(pieces):
-        if name is None or path.name == "Proof.antt" or name in named:
+        if name is None or path.name in OF_GOALS or name in named:
             continue
-        parts = [part for part in name.split("_") if part]
+        parts = [part for part in name.split("◌") if part]
         together = set.intersection(*(where.get(part, set()) for part in parts))
         if not (together | where.get(name, set())) - {index}:
             stray.append(f"{path.relative_to(ROOT)}: {name}")

@@ -80,7 +80,7 @@ fn clang() -> Option<PathBuf> {
     };
     let clang = env::var_os("BKM_CLANG")
         .map(PathBuf::from)
-        .or_else(|| Some(kit()?.join("on").join(env::consts::ARCH).join("toolchain/bin/clang")))?;
+        .or_else(|| Some(kit()?.join("toolchain/bin/clang")))?;
     clang.exists().then_some(clang)
 }
 
@@ -93,8 +93,8 @@ fn run(command: &mut Command) -> String {
 fn compile(clang: &Path, folder: &Path) {
     // The kit's clang comes without the compiler's own headers.
     let headers = run(Command::new("gcc").arg("-print-file-name=include"));
-    // As the kit compiles the product: for any machine of this kind.
-    let flags = ["-O3", "-march=x86-64", "-Wall", "-Wextra", "-Werror"];
+    // As the kit compiles the product: for any machine of the second level of this kind.
+    let flags = ["-O3", "-march=x86-64-v2", "-Wall", "-Wextra", "-Werror"];
     let objects = ["engines", "sheet"].map(|name| {
         let object = folder.join(name).with_extension("o");
         let mut command = Command::new(clang);

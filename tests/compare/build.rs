@@ -12,7 +12,7 @@ fn main() {
     println!("cargo:rerun-if-changed={}", library.display());
     if !library.exists() {
         panic!(
-            "{} is missing: run `rt staticlib controller`, or set BKM_STATICLIB_DIR",
+            "{} is missing: run `bash tools/build library`, or set BKM_STATICLIB_DIR",
             library.display()
         );
     }

@@ -51,25 +51,24 @@ def numbers_spec():
     steps = listed(["(" + "\n    ∷ ".join(row_of(row) for row in rows) + "\n    ∷ [])" for rows in step_table(WIDTH)], 4)
     quarter_pi, ln_2, half_ln_2 = constants(WIDTH)
     return f"""-- The tables of logarithms and the constants at the width {WIDTH}, each number as the nearest unit of 1/2^{WIDTH}. {MADE}
-use mathlib.Core.List.{{List, [], _∷_}}
-use lib.IntN.{{pos}}
-use Rattle·algebra.specs.Gauss.{{𝔾, gi}}
-use Rattle·table_numbers·specs.specs.Listed.{{neg}}
-use Rattle·table_numbers·specs.specs.Promise.{{Constants}}
+use Rattle.std.specs.Prelude.{{List, [], ◌∷◌, pos}}
+use Rattle.algebra.specs.Gauss.{{𝔾, gi}}
+use Rattle.table_numbers.specs.Listed.{{neg}}
+use Rattle.table_numbers.specs.Promise.{{Constants}}
 
 -- ln(1 + d/2^n): for each n from 1 to {WIDTH - 8} three rows by dx, each of three entries by dy, from −1 to 1 (01, The step)
-unfoldable pub stepLogs : List (List (List 𝔾))
-stepLogs =
+unfoldable pub step_logs : List (List (List 𝔾))
+step_logs =
 {steps}
 
 -- ln((a + ib)/64): for each X from 17 to 31 by Y from −31 to 31
-unfoldable pub reciprocalLogs : List (List 𝔾)
-reciprocalLogs =
+unfoldable pub reciprocal_logs : List (List 𝔾)
+reciprocal_logs =
 {nested(reciprocal_logs(WIDTH), 3)}
 
 -- the constants of EXP's reduction (02, E5)
 unfoldable pub constants48 : Constants
-constants48 = record {{ quarter-pi = {quarter_pi}; ln-2 = {ln_2}; half-ln-2 = {half_ln_2} }}
+constants48 = record {{ quarter_pi = {quarter_pi}; ln_2 = {ln_2}; half_ln_2 = {half_ln_2} }}
 """
 
 
@@ -100,9 +99,9 @@ def parts():
 def array_source():
     """The array over n of three rows of three entries, and a reader of each constant."""
     out = [f"""// The array over n, each element three rows by dx of three entries by dy, at the width {WIDTH}: {PART} elements to a constant. {MADE}
-ghost use mathlib.Core.Path.{{_≡_}};
-ghost use Prim.Native.Nat.{{_<_, _+_}};
-ghost use Rattle·table_numbers.specs.Rows.{{stepRow, part}};
+ghost use Rattle.std.specs.Prelude.{{◌≡◌, ◌<◌, ◌+◌}};
+ghost use Rattle.table_numbers.specs.Rows.{{step_row, part}};
+
 use step_table::rows{WIDTH} as t;
 use table_numbers::Entry;
 """]
@@ -112,8 +111,8 @@ use table_numbers::Entry;
     for number, first in parts():
         out.append(f"""
 pub fn part_{number}(i: usize, place: usize) -> [Entry; 3]
-    requires {{ ⌜ (i < {PART}) × (place < 3) ⌝ }}
-    ensures {{ λ r. ⌜ r ≡ stepRow (i + {first}) (part place) ⌝ }}
+    requires {{ (i < {PART}) × (place < 3) }}
+    ensures {{ result ≡ step_row (i + {first}) (part place) }}
 {{
     PART_{number}[i][place]
 }}
@@ -142,9 +141,10 @@ pub const NO_STEP: [Entry; 3] = [
 def flat_source():
     """The rows in six numbers each, and the look-up among them: a `match` over nested constants takes six times as long to check."""
     out = [f"""// The rows of the step table at the width {WIDTH} in six numbers each, and the look-up among them. {MADE}
-ghost use mathlib.Core.Path.{{_≡_}};
-ghost use Rattle·table_numbers.specs.Rows.{{rowAt}};
-ghost use Rattle·step_table·specs.specs.Code.{{entries}};
+ghost use Rattle.std.specs.Prelude.{{◌≡◌}};
+ghost use Rattle.table_numbers.specs.Rows.{{row_at}};
+ghost use Rattle.step_table.specs.Code.{{entries}};
+
 use crate::rows{WIDTH} as t;
 
 const NO_STEP: [i64; 6] = [0, 0, 0, 0, 0, 0];
@@ -158,7 +158,7 @@ const NO_STEP: [i64; 6] = [0, 0, 0, 0, 0, 0];
     out.append(f"""
 // Three rows to an n. A `match` over named rows becomes a read-only table, where a constant array would be written out at each call.
 pub fn numbers_at(index: usize) -> [i64; 6]
-    ensures {{ λ r. ⌜ entries r ≡ rowAt index ⌝ }}
+    ensures {{ entries result ≡ row_at index }}
 {{
     match index {{
 {arms}        _ => NO_STEP,
@@ -172,12 +172,13 @@ def reciprocal_logs_source():
     cells = [entry for column in reciprocal_logs(WIDTH) for entry in column]
     arms = "".join(f"        {i} => {indented(number_fields(e), 2)},\n" for i, e in enumerate(cells))
     return f"""// The logarithms of the reciprocals at the width {WIDTH}, by their cells. {MADE}
-ghost use mathlib.Core.Path.{{_≡_}};
-ghost use Rattle·table_numbers.specs.Rows.{{reciprocalLogAt}};
+ghost use Rattle.std.specs.Prelude.{{◌≡◌}};
+ghost use Rattle.table_numbers.specs.Rows.{{reciprocal_log_at}};
+
 use table_numbers::Entry;
 
 pub fn reciprocal_log_at(cell: usize) -> Entry
-    ensures {{ λ r. ⌜ r ≡ reciprocalLogAt cell ⌝ }}
+    ensures {{ result ≡ reciprocal_log_at cell }}
 {{
     match cell {{
 {arms}        _ => Entry {{ re: 0, im: 0 }},
@@ -187,61 +188,48 @@ pub fn reciprocal_log_at(cell: usize) -> Entry
 
 
 # ---- the proofs of the look-ups: in each arm the number is known, and the specification computes there to the arm's entries
-def arms_proof(function, uses, unfolds, definition, last, count, rows=None):
-    crate, *path = function
-    module = f"Rattle·{crate}·proofs.proofs." + ".".join(path)
-    name = "-".join(path[-1].split("_")) + "-spec"
-    arms = "".join(f"    (λ c. ap {definition} (sym (c .match .keys{i})))\n" for i in range(1, count + 1))
-    rows = rows or definition
+def arms_proof(function, uses, unfolds, definition, last, keys, argument, rows=None):
+    module = f"Rattle.{function[0]}.proofs." + ".".join(function[1:])
+    answers = [(f"returns-in-{key}", f"ap {definition} (sym c.in-{key}.is)") for key in keys]
+    answers.append(("returns-in_default", f"{last} c.args.{argument} c.in_default.in_default-own.rest"))
+    said = "\n".join(f"pub {name} : goal.{name}\nunfolding {unfolds}\n{name} c = {answer}\n" for name, answer in answers)
     return f"""-- `{'::'.join(function)}` meets its contract: in each arm the number is known, and the
 -- specification computes there to what the arm answers. {MADE}
 use mathlib.Core.Path.{{sym, ap}}
-{uses}use Rattle·table_numbers.specs.Rows.{{{rows}}}
-use Rattle·table_numbers.proofs.RowLaws.{{{last}}}
-use {module}.Statement.{{statement}}
-use {module}.Tie as tie
+{uses}use Rattle.table_numbers.specs.Rows.{{{rows or definition}}}
+use Rattle.table_numbers.proofs.RowLaws.{{{last}}}
+use {module}.Goals as goal
 
-pub {name} : {{M : Type 1}} → statement M
-unfolding {unfolds}
-{name} =
-    tie.close
-    (tie.spec
-{arms}    (λ c. {last} (c .before .args .{'index' if count == 120 else 'cell'}) (c .match .rest)))
-"""
+{said}"""
 
 
 def steps_proof():
-    uses = f"""use Rattle·table_numbers.specs.Numbers{WIDTH}.{{stepLogs}}
-use Rattle·table_numbers.specs.Table.{{stepTable}}
+    uses = f"""use Rattle.table_numbers.specs.Numbers{WIDTH}.{{step_logs}}
+use Rattle.table_numbers.specs.Table.{{step_table}}
 """
-    return arms_proof(("step_table", f"flat{WIDTH}", "numbers_at"), uses, "stepRow stepTable stepLogs", "rowAt", "other-row", 3 * (WIDTH - 8), "stepRow, rowAt")
+    function = ("step_table", f"flat{WIDTH}", "numbers_at")
+    return arms_proof(function, uses, "step_row step_table step_logs", "row_at", "other_row", range(3, 3 * (WIDTH - 7)), "index", "step_row, row_at")
 
 
 def part_proof(number, first):
-    module = f"Rattle·step_array·proofs.proofs.array{WIDTH}.part_{number}"
-    needs = ("mul-result", "mul-result-2", "index-1-result", "index-2-result")
-    answers = "".join(f"{need} : tie.Need-{need}\n{need} c = search needs\n\n" for need in needs)
+    module = f"Rattle.step_array.proofs.array{WIDTH}.part_{number}"
     return f"""-- `step_array::array{WIDTH}::part_{number}` meets its contract: the array is the specification's. {MADE}
-use borrow.Author.Needs.{{needs}}
-use Rattle·table_numbers.specs.Numbers{WIDTH}.{{stepLogs}}
-use Rattle·table_numbers.specs.Table.{{stepTable}}
-use Rattle·table_numbers.specs.Rows.{{stepRow}}
-use Rattle·step_array·proofs.proofs.Matrices.{{matrices, matrices-at}}
-use {module}.Statement.{{statement}}
-use {module}.Tie as tie
+use Rattle.table_numbers.specs.Numbers{WIDTH}.{{step_logs}}
+use Rattle.table_numbers.specs.Table.{{step_table}}
+use Rattle.table_numbers.specs.Rows.{{step_row}}
+use Rattle.step_array.proofs.Matrices.{{matrices, matrices_at}}
+use {module}.Goals as goal
 
-{answers}returns : tie.Need-returns
-unfolding stepRow matrices stepTable stepLogs
-returns c = let s = c .before in matrices-at {first} {PART} (s .args .i) (s .args .place) (s .pre .0) (s .pre .1)
-
-pub part-{number}-spec : {{M : Type 1}} → statement M
-part-{number}-spec = tie.close (tie.spec {' '.join(needs)} returns)
+pub returns : goal.returns
+unfolding step_row matrices step_table step_logs
+returns c = let s = c.before in matrices_at {first} {PART} s.args.i s.args.place s.requires.0 s.requires.1
 """
 
 
 def reciprocal_logs_proof():
-    uses = f"use Rattle·table_numbers.specs.Numbers{WIDTH}.{{reciprocalLogs}}\n"
-    return arms_proof(("reciprocal_table", f"reciprocal_logs{WIDTH}", "reciprocal_log_at"), uses, "reciprocalLogs", "reciprocalLogAt", "other-log", 256)
+    uses = f"use Rattle.table_numbers.specs.Numbers{WIDTH}.{{reciprocal_logs}}\n"
+    function = ("reciprocal_table", f"reciprocal_logs{WIDTH}", "reciprocal_log_at")
+    return arms_proof(function, uses, "reciprocal_logs", "reciprocal_log_at", "other_log", range(256), "cell")
 
 
 FILES = {
@@ -249,11 +237,11 @@ FILES = {
     f"step_table/src/rows{WIDTH}.rt": steps_source,
     f"step_table/src/flat{WIDTH}.rt": flat_source,
     f"reciprocal_table/src/reciprocal_logs{WIDTH}.rt": reciprocal_logs_source,
-    f"step_table/proofs/flat{WIDTH}/numbers_at/Proof.antt": steps_proof,
-    f"reciprocal_table/proofs/reciprocal_logs{WIDTH}/reciprocal_log_at/Proof.antt": reciprocal_logs_proof,
+    f"step_table/proofs/flat{WIDTH}/numbers_at/Answers.antt": steps_proof,
+    f"reciprocal_table/proofs/reciprocal_logs{WIDTH}/reciprocal_log_at/Answers.antt": reciprocal_logs_proof,
     f"step_array/src/array{WIDTH}.rt": array_source,
 } | {
-    f"step_array/proofs/array{WIDTH}/part_{number}/Proof.antt": functools.partial(part_proof, number, first) for number, first in parts()
+    f"step_array/proofs/array{WIDTH}/part_{number}/Answers.antt": functools.partial(part_proof, number, first) for number, first in parts()
 }
 
 

@@ -1,89 +1,103 @@
 // Answers a sheet: standard input to standard output.
 #![tactic(auto)]
 
-ghost use Rattle.std.specs.Prelude.{true, ◌≡◌, ◌≤◌, length};
+ghost use Rattle.std.specs.Prelude.{◌≡◌, ◌≤◌, length, IfOk};
 ghost use Rattle.text.specs.Answer.{answer_room};
 ghost use Rattle.stream.specs.Machine.{cut, place_after};
 ghost use Rattle.stream.specs.Sheet.{machine, place_of};
 
-use libc::{STDERR_FILENO, STDIN_FILENO, STDOUT_FILENO};
+use std::env::{Env, FillError};
+use std::fmt::Display;
+use std::io::{self, ErrorKind, Read};
+use std::process::ExitCode;
 use stream::Place;
 
-// What a block leads to: the place in the sheet, and whether its answers were written.
-#[derive(Clone, Copy)]
-struct Answered {
-    place: Place,
-    written: bool,
+const NO_ARGUMENT: &str =
+    "bkm: reads a sheet on standard input and takes no argument, as in: bkm < SHEET";
+
+// What a shell gives as the status of a program that SIGPIPE ended.
+const READER_GONE: u8 = 141;
+
+// Which of the streams failed, and how.
+#[derive(Drop)]
+enum Failure {
+    Input(io::Error),
+    Output(io::Error),
 }
 
-// Writes bytes to standard output; a failure is said on standard error.
-fn write_out(bytes: &[u8]) -> bool {
-    let written = io::write_all(STDOUT_FILENO, bytes);
-    if !written {
-        os::fail(b"bkm: standard output");
+// Whether the program was started with an argument.
+fn has_argument(rt: &impl Env) -> bool {
+    !matches!(rt.arg(1, &mut []), Err(FillError::NotPresent))
+}
+
+// The system's words for an error, without the number that std puts behind them.
+fn words(said: &str) -> &str {
+    match said.split_once(" (os error ") {
+        Some((words, _)) => words,
+        None => said,
     }
-    written
+}
+
+// Says on standard error what failed. Where that cannot be written, there is nobody to tell.
+fn tell(rt: &(impl Eprint + Alloc), stream: &str, error: io::Error) {
+    let _ = match error.to_string(rt.alloc()) {
+        Ok(said) => {
+            let why = words(said.as_str());
+            eprintln!(rt; "bkm: {stream}: {why}")
+        }
+        Err(_) => eprintln!(rt; "bkm: {stream}: {error}"),
+    };
 }
 
 // Feeds all of a block and writes its answers, up to the first that cannot be written.
-fn answer_block(place: Place, block: &[u8], out: &mut [u8]) -> Answered
+fn answer_block(rt: &impl Print, place: Place, block: &[u8], out: &mut [u8]) -> io::Result<Place>
     requires { answer_room ≤ length out.old }
-    ensures { result.written ≡ true → cut (place_of result.place) ≡ cut (place_after machine (place_of place) block.now) }
+    ensures { IfOk result (λ p. cut (place_of p) ≡ cut (place_after machine (place_of place) block.now)) }
 {
     let mut here = place;
     let mut at: usize = 0;
     while at < block.len() {
-        let f = stream::feed(here, &block[at..], out);
-        let n = f.written;
-        here = f.place;
-        if !write_out(&out[..n]) {
-            return Answered {
-                place: here,
-                written: false,
-            };
-        }
-        at = at + f.read;
+        let fed = stream::feed(here, &block[at..], out);
+        rt.write_all(&out[..fed.written])?;
+        here = fed.place;
+        at += fed.read;
     }
-    Answered {
-        place: here,
-        written: true,
-    }
+    Ok(here)
 }
 
-fn main() {
-    if 1 < os::arg_count() {
-        io::write_all(
-            STDERR_FILENO,
-            b"bkm: reads a sheet on standard input and takes no argument, as in: bkm < SHEET\n",
-        );
-        return;
-    }
+// Writes the heading, then reads standard input to its end, and answers each block before it reads the next.
+fn answer_sheet(rt: &HostRuntime) -> Result<(), Failure> {
     let mut block = [0u8; 65536];
     let mut out = [0u8; 65536];
     let n = stream::open(&mut out);
-    if !write_out(&out[..n]) {
-        return;
-    }
+    rt.write_all(&out[..n]).map_err(Failure::Output)?;
     let mut place = stream::empty();
+    let mut input = rt.stdin();
     // A proved loop ends, and nothing says that the input does: so many blocks no input has.
-    let mut turns = u64::MAX;
-    while 0 < turns {
-        let got = libc::read(STDIN_FILENO, &mut block);
-        if got < 0 {
-            os::fail(b"bkm: standard input");
-            return;
-        }
-        if got == 0 {
+    for _ in 0..u64::MAX {
+        let n = input.read(&mut block).map_err(Failure::Input)?;
+        if n == 0 {
             break;
         }
-        let n = io::count(got, &block);
-        let a = answer_block(place, &block[..n], &mut out);
-        if !a.written {
-            return;
-        }
-        place = a.place;
-        turns = turns - 1;
+        place = answer_block(rt, place, &block[..n], &mut out).map_err(Failure::Output)?;
     }
     let n = stream::finish(place, &mut out);
-    write_out(&out[..n]);
+    rt.write_all(&out[..n]).map_err(Failure::Output)
+}
+
+fn main(rt: HostRuntime) -> ExitCode {
+    if has_argument(&rt) {
+        let _ = eprintln!(rt; "{NO_ARGUMENT}");
+        return ExitCode::SUCCESS;
+    }
+    match answer_sheet(&rt) {
+        Ok(()) => {}
+        // the reader has what it wanted, as `head` has
+        Err(Failure::Output(error)) if error.kind() == ErrorKind::BrokenPipe => {
+            return ExitCode::from(READER_GONE);
+        }
+        Err(Failure::Output(error)) => tell(&rt, "standard output", error),
+        Err(Failure::Input(error)) => tell(&rt, "standard input", error),
+    }
+    ExitCode::SUCCESS
 }

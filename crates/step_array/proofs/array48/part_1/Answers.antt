@@ -1,5 +1,4 @@
 -- `step_array::array48::part_1` meets its contract: the array is the specification's. Made by tests/tables/generate.py.
-use borrow.Author.Rules.{rules}
 use Rattle.table_numbers.specs.Numbers48.{step_logs}
 use Rattle.table_numbers.specs.Table.{step_table}
 use Rattle.table_numbers.specs.Rows.{step_row}
