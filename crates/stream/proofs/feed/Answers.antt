@@ -87,10 +87,10 @@ module _ (c : After-answer_ended-a) where
   out = turn.loop-end.out
 
   abbrev after : List ℕ
-  after = put_mid at (length out - at) out c.answer_ended-a.new.1.1.1.1.0
+  after = put_mid at (length out - at) out c.answer_ended-a.new.out
 
   fits : at + c.answer_ended-a.result.written ≤ length out
-  fits = rest_within out at (within turn) c.answer_ended-a.ensures.bytes c.answer_ended-a.auto.1.1.1.1.0
+  fits = rest_within out at (within turn) c.answer_ended-a.ensures.bytes c.answer_ended-a.auto.out
 
   goes_on : {r : Place State} → r ≡ new_line c.answer_ended-a.result.state →
       Reached machine (place_of (start turn).args.place) (start turn).args.piece.now (start turn).args.out.now after
@@ -102,18 +102,18 @@ module _ (c : After-answer_ended-a) where
       answered machine (scanned machine turn.loop-end.invariant.1 e) h (e.mark h) (omega (arith, room c.before.before, same turn))
       n
       told.state
-      (rest_put out at (within turn) told.bytes c.answer_ended-a.auto.1.1.1.1.0)
+      (rest_put out at (within turn) told.bytes c.answer_ended-a.auto.out)
       (omega (arith, fits, same turn))
 
 pub overflow_add-written : goal.overflow_add-written
 overflow_add-written c =
     let a = c.before.before.before.before.before.before in
-    omega (arith, fits a, same (turn a), (start (turn a)).good.1.1.0.0)
+    omega (arith, fits a, same (turn a))
 
 pub overflow_add-i : goal.overflow_add-i
 overflow_add-i c =
     let a = c.before.before.before.before.before.before in
-    omega (arith, a.before.before.before.loop-end-test.true, (start (turn a)).good.1.0.0)
+    omega (arith, a.before.before.before.loop-end-test.true)
 
 pub loop-end-smaller : goal.loop-end-smaller
 loop-end-smaller c =
@@ -133,13 +133,8 @@ shape_of-out c = same c.before.before.before
 
 pub returns : goal.returns
 returns c =
-    let both = (let l = c.before.before.before in
+    let l = c.before.before.before in
     let r = scanned machine l.loop-end.invariant.1 (ends l) in
-    stopped machine r
-    (⊎_elim
-    (λ w. no_room machine r w.0.taken ((ends l).mark w.0.taken)
-    (omega (arith, leb-false, w.1.left, same l)))
-    (λ w. at_end machine r w.left)
-    c.before.before.loop-end-test.branch)
-    c.before.extended.ensures) in
-    record { read = both.0; place = both.1.0; count = both.1.1.0; bytes = both.1.1.1 }
+    let left = elim c.loop-end-test.branch [ _ ↦ ? ] in
+    let all = stopped machine r left c.extended.ensures in
+    record { read = all.0; place = all.1.0; count = all.1.1.0; bytes = all.1.1.1 }

@@ -21,7 +21,7 @@ use Rattle.stream.specs.declared.Answered.{Answered}
 use Rattle.stream.specs.Sheet.{reply_after, answer_line}
 use Rattle.stream.specs.Code.{Wrote}
 use Rattle.stream.proofs.next.Goals as goal
-use Rattle.stream.proofs.next.Goals.{Start}
+use Rattle.stream.proofs.next.Goals.{After-counted-2, in-Is+else-serial-largest, in_default}
 
 -- ---- the machine's three ways
 module _ (s : State) (l : List ℕ) where
@@ -39,8 +39,8 @@ module _ (s : State) (l : List ℕ) where
     above h = rw (e, h)
 
 -- what a call of a line wrote, with room for it; serials as the code holds them
-wrote : (a : Reply) {largest refusal : ℤ} {x w : ℕ} {b b' : List ℕ} {r : Answered} → answer_room ≤ length b → Called a b b' refusal w →
-    SFits w64 largest → x ≡ of_z w64 largest → r ≡ record { state = record { largest = to_z w64 x }; written = w } →
+wrote : (a : Reply) {largest refusal x : ℤ} {w : ℕ} {b b' : List ℕ} {r : Answered} → answer_room ≤ length b → Called a b b' refusal w →
+    SFits w64 largest → x ≡ to_z w64 (of_z w64 largest) → r ≡ record { state = record { largest = x }; written = w } →
     Wrote (record { bytes = a.bytes; state = record { largest = largest } }) b b' r
 wrote a {b = b} room h f n e =
     let told = rw (le-ltb (length b) answer_room room) at h.1 in
@@ -50,9 +50,37 @@ seven : {serial refusal : ℤ} (b : List ℕ) {b' : List ℕ} {w : ℕ} → SFit
     Called (refused_reply (to_z w64 (of_z w64 serial)) (pos 7)) b b' refusal w → Called (refused_reply serial (pos 7)) b b' refusal w
 seven b f h = rw (back f) at h
 
+-- its own answer, where it has no serial or one above the largest
+own : (c : After-counted-2) {largest : ℤ} → SFits w64 largest → to_z w64 c.match-serial.largest-bits ≡ to_z w64 (of_z w64 largest) →
+    Wrote (record { bytes = (reply_of (read_line c.args.line.now)).bytes; state = record { largest = largest } }) c.args.out.now c.reply-own.new.out
+    c.counted-2.result
+own c f e =
+    let r = c.reply-own.ensures in
+    let asked = c.read_line-asked.ensures in
+    wrote (reply_of (read_line c.args.line.now)) c.requires (rw asked at r.refusal, (rw asked at r.count, rw asked at r.bytes)) f e
+    c.counted-2.ensures
+
 pub returns : goal.returns
-returns c = ?
+returns c =
+    let numbered : serial_of (read_line c.args.line.now) ≡ c.serial.result = sym (c.serial.ensures ∙ ap serial_of c.read_line-asked.ensures) in
+    let fits : SFits w64 c.args.state.largest = search rules in
+    elim c.match-serial.branch [
+      | in-Is+else-serial-largest w ↦
+        let k = w.in-Is in
+        let fit : SFits w64 k.serial = sfits_mag k.serial k.known_told-1-own.given.0.1 in
+        let high : le_z k.serial c.args.state.largest ≡ false = rw (back fit, back fits) at w.if-serial-largest.false in
+        rw (above c.args.state c.args.line.now (numbered ∙ k.is) high) (own c fit w.largest-is)
+      | in_default w ↦ rw (malformed c.args.state c.args.line.now (numbered ∙ w.in_default.is)) (own c fits w.largest-is)
+    ]
 
 -- ---- turned away, where its serial is not above the largest
 pub returns-then-serial-largest : goal.returns-then-serial-largest
-returns-then-serial-largest c = ?
+returns-then-serial-largest c =
+    let k = c.in-Is in
+    let serial : serial_of (read_line c.args.line.now) ≡ Is k.serial = sym (c.serial.ensures ∙ ap serial_of c.read_line-asked.ensures) ∙ k.is in
+    let fit : SFits w64 k.serial = sfits_mag k.serial k.known_told-1-own.given.0.1 in
+    let fits : SFits w64 c.args.state.largest = search rules in
+    let low : le_z k.serial c.args.state.largest ≡ true = rw (back fit, back fits) at c.if-serial-largest.true in
+    let r = c.refuse-not_above.ensures in
+    rw (not_above c.args.state c.args.line.now serial low)
+    (wrote (refused_reply k.serial (pos 7)) c.requires (seven c.args.out.now fit (r.refusal, (r.count, r.bytes))) fits refl c.counted.ensures)
