@@ -8,12 +8,7 @@ use lib.IntN.{pos}
 use Rattle.algebra.proofs.Ring.{Ring, pw, mul_add, zero_mul}
 use Rattle.algebra.proofs.Reify.{ring!, reifyᴿ}
 use Rattle.algebra.proofs.Sum.{sum, sum_cong, sum_add, sum_mul_r, sum_head}
-
--- the number of ways to choose j of m
-unfoldable pub choose : ℕ → ℕ → ℕ
-choose m zero = 1
-choose zero (suc j) = 0
-choose (suc m) (suc j) = choose m j + choose m (suc j)
+use Rattle.algebra.proofs.Choose.{choose}
 
 pub choose_over : (m : ℕ) (j : ℕ) → m < j → choose m j ≡ 0
 unfolding choose

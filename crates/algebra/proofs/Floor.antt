@@ -16,10 +16,10 @@ use Rattle.algebra.proofs.Inequality.{below_next}
 
 -- ---- m · floor(z/m) ≤ z < m · floor(z/m) + m
 module _ (m : ℕ) (h : 0 < m) where
-  lo : (a : ℕ) → m * (a / m) ≤ a
+  pub lo : (a : ℕ) → m * (a / m) ≤ a
   lo a = omega (arith, div-add-mod a m)
 
-  hi : (a : ℕ) → a + 1 ≤ m * (a / m) + m
+  pub hi : (a : ℕ) → a + 1 ≤ m * (a / m) + m
   hi a = omega (arith, div-add-mod a m, mod-lt a h)
 
   pub floor_lo : (z : ℤ) → pos m *ℤ shr_z z m ⩽ z
@@ -50,21 +50,6 @@ module _ (m : ℕ) (h : 0 < m) where
   pub nearest_hi : (z : ℤ) → pos 2 *ℤ z +ℤ pos 1 ⩽ pos 2 *ℤ (pos m *ℤ nearest z m) +ℤ pos m
   unfolding nearest
   nearest_hi z = lin (pos m ∷ z ∷ nearest z m ∷ []) (floor_hi (2 * m) (omega arith) (pos 2 *ℤ z +ℤ pos m) & none) (search reify depth 20) tt
-
-  -- the floor after half of m is added; m = 1 has no half
-  pub nearest_half : (z : ℤ) → shr_z (z +ℤ pos (m / 2)) m ≡ nearest z m
-  nearest_half z = floor_unique m h (z +ℤ pos (m / 2)) (nearest z m)
-      (below_next (pos 2) (record { le = tt }) (lin ρ (nearest_lo z & hi 2 (omega arith) m &ℕ none) (search reify depth 20) tt))
-      (below_next (pos 2) (record { le = tt }) (lin ρ (nearest_hi z & lo 2 (omega arith) m &ℕ none) (search reify depth 20) tt))
-    where
-      ρ : List ℤ
-      ρ = pos m ∷ pos (m / 2) ∷ z ∷ nearest z m ∷ []
-
-  -- c more where c · m is added
-  pub nearest_shifted : (z c : ℤ) → shr_z (pos 2 *ℤ z +ℤ pos m +ℤ pos 2 *ℤ pos m *ℤ c) (2 * m) ≡ nearest z m +ℤ c
-  nearest_shifted z c = floor_unique (2 * m) (omega arith) (pos 2 *ℤ z +ℤ pos m +ℤ pos 2 *ℤ pos m *ℤ c) (nearest z m +ℤ c)
-      (lin (z ∷ c ∷ pos m ∷ nearest z m ∷ []) (nearest_lo z & none) (search reify depth 20) tt)
-      (lin (z ∷ c ∷ pos m ∷ nearest z m ∷ []) (nearest_hi z & none) (search reify depth 20) tt)
 
 -- ---- z/m rounded up: the least whole number that is not below it
 module _ (m : ℕ) (h : 0 < m) where

@@ -34,7 +34,9 @@ pub mod Inequality
 pub mod Range
 pub mod Power
 pub mod Floor
+pub mod Nearest
 pub mod Sum
+pub mod Choose
 pub mod Binomial
 pub mod Within
 pub mod Parts

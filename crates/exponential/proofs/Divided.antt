@@ -18,7 +18,8 @@ use Rattle.algebra.proofs.Integer.{ℤR}
 use Rattle.algebra.proofs.Reify.{ring!, reify}
 use Rattle.algebra.proofs.Order.{⩽_antisym, nonneg_pos, nonneg_mul, pos_inj_le}
 use Rattle.algebra.proofs.Linear.{lin, ◌&◌, ◌&≡◌, none}
-use Rattle.algebra.proofs.Floor.{floor_lo, floor_hi, floor_unique, nearest_shifted}
+use Rattle.algebra.proofs.Floor.{floor_lo, floor_hi, floor_unique}
+use Rattle.algebra.proofs.Nearest.{nearest_shifted}
 use Rattle.algebra.proofs.Parts.{size_add}
 use Rattle.word.proofs.Fits.{sfits_size}
 use Rattle.word.proofs.Compare.{le_lt_z}

@@ -15,7 +15,8 @@ use Rattle.algebra.proofs.Order.{nonneg_mul, nonneg_pos, sub_nonneg, pos_mono, p
 use Rattle.algebra.proofs.Linear.{lin, ◌&◌, ◌&≡◌, none}
 use Rattle.algebra.proofs.Inequality.{below_next}
 use Rattle.algebra.proofs.Power.{two_pos, two≥1, two_mul, two_mono}
-use Rattle.algebra.proofs.Floor.{floor_unique, nearest_half}
+use Rattle.algebra.proofs.Floor.{floor_unique}
+use Rattle.algebra.proofs.Nearest.{nearest_half}
 use Rattle.algebra.proofs.Parts.{size_nat, size_add, size_digit, size_neg}
 use Rattle.word.proofs.Fits.{back, zero_sub, sfits_size}
 use Rattle.word.proofs.Shift.{sfits_shift}

@@ -8,7 +8,8 @@ use lib.IntN.{pos}
 use Rattle.algebra.proofs.Ring.{Ring, pw}
 use Rattle.algebra.proofs.Reify.{ring!, reifyᴿ}
 use Rattle.algebra.proofs.Sum.{sum, sum_cong, sum_mul, cauchy}
-use Rattle.algebra.proofs.Binomial.{choose, term, binomial}
+use Rattle.algebra.proofs.Choose.{choose}
+use Rattle.algebra.proofs.Binomial.{term, binomial}
 use Rattle.series.specs.Series.{D}
 use Rattle.series.proofs.Series.{Dᴿ, Dᴿ-suc, S}
 use Rattle.series.proofs.Coefficient.{co, co_D, co_co}

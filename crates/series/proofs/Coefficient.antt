@@ -3,7 +3,8 @@ use mathlib.Core.Path.{◌≡◌, refl, sym, ◌∙◌, ap, ap₂}
 use Prim.Native.Nat.{ℕ, zero, suc, ◌+◌, ◌*◌, ◌-◌, ◌<◌, ◌≤◌}
 use native.Mathlib.Nat as NatL
 use native.Mathlib.Omega.{arith}
-use Rattle.algebra.proofs.Binomial.{choose, choose_over}
+use Rattle.algebra.proofs.Choose.{choose}
+use Rattle.algebra.proofs.Binomial.{choose_over}
 use Rattle.series.specs.Series.{D}
 use Rattle.series.proofs.Series.{D-pos}
 

@@ -1,18 +1,20 @@
 -- What the engines use of the series, at a unit U, from T₀ terms on, for arguments up to R = p/q and with the bound 1/c.
 use Prim.Native.Nat.{ℕ, ◌^◌, ◌≤◌, ◌<◌}
-use mathlib.Core.Path.{refl, subst}
-use lib.Dec.{lit<, lit≤}
+use mathlib.Core.Path.{subst}
+use lib.Dec.{lit<}
 use lib.IntN.{ℤ, pos, ◌+ℤ◌, ◌*ℤ◌}
 use Rattle.algebra.specs.Order.{◌⩽◌}
 use Rattle.algebra.specs.Gauss.{𝔾, ιᵍ, ◌+ᵍ◌, ◌-ᵍ◌, ◌*ᵍ◌}
 use Rattle.algebra.specs.Size.{Within}
 use Rattle.algebra.proofs.Power.{pow_pos}
 use Rattle.series.specs.Series.{Sᵍ, Dᵍ, Dᶻ}
-use Rattle.series.proofs.Series.{fact, complex_is}
-use Rattle.series.proofs.NearOne.{room, near_one, size}
+use Rattle.series.proofs.Series.{complex_is}
+use Rattle.series.proofs.NearOne.{room, near_one}
+use Rattle.series.proofs.NearOneSize.{size}
 use Rattle.series.proofs.Tail.{TailBound, tail_within}
 use Rattle.series.proofs.Carry.{carry}
 use Rattle.series.proofs.Product.{product}
+pub use Rattle.series.proofs.Bounds.{bound_9/4, bound_2, bound_16}
 
 -- E T z over the divisor D T is the exponential
 pub record LawsOf (E : ℕ → 𝔾 → 𝔾) (U T₀ p q c : ℕ) : Type 0 where
@@ -44,20 +46,6 @@ laws U T₀ p q c U>0 c>0 tb = subst (λ E. LawsOf E U T₀ p q c) (λ i T z. co
   carry = λ h near. carry T₀ p q c tb c>0 U U>0 h near;
   product = λ h g near T k. product T₀ p q c tb U U>0 h g near T k;
 })
-
--- ---- the numbers
--- R = 9/4 and 2 at 24 terms; R = 16 at 80 (request E5)
-pub bound_9/4 : TailBound 24 9 4 (2 ^ 50)
-unfolding fact
-bound_9/4 = record { a = 91; a_is = refl; a>0 = lit< tt; q>0 = lit< tt; bound = lit≤ tt }
-
-pub bound_2 : TailBound 24 2 1 (2 ^ 54)
-unfolding fact
-bound_2 = record { a = 23; a_is = refl; a>0 = lit< tt; q>0 = lit< tt; bound = lit≤ tt }
-
-pub bound_16 : TailBound 80 16 1 (2 ^ 74)
-unfolding fact
-bound_16 = record { a = 65; a_is = refl; a>0 = lit< tt; q>0 = lit< tt; bound = lit≤ tt }
 
 -- at every width F, one is 2^F units
 pub laws_at : (F : ℕ) → Laws (2 ^ F) 24 9 4 (2 ^ 50)

@@ -14,8 +14,10 @@ pub mod PlainSum
 pub mod Majorant
 pub mod Decay
 pub mod NearOne
+pub mod NearOneSize
 pub mod Tail
 pub mod Carry
 pub mod Cauchy
 pub mod Product
+pub mod Bounds
 pub mod Laws

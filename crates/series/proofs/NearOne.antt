@@ -23,10 +23,10 @@ use Rattle.series.proofs.Decay.{decay}
 abbrev pub room : ℕ → ℤ → ℤ
 room U ρ = pos 2 *ℤ pos U -ℤ ρ
 
-module _ (U : ℕ) {z : 𝔾} {ρ : ℤ} (h : Within z ρ) (near : ρ ⩽ pos 2 *ℤ pos U) (T : ℕ) (T>0 : 1 ≤ T) where
-  room≥0 : pos 0 ⩽ room U ρ
-  room≥0 = lin (ρ ∷ pos U ∷ []) (near & none) (search reify depth 20) tt
+pub room≥0 : (U : ℕ) {ρ : ℤ} → ρ ⩽ pos 2 *ℤ pos U → pos 0 ⩽ room U ρ
+room≥0 U {ρ = ρ} near = lin (ρ ∷ pos U ∷ []) (near & none) (search reify depth 20) tt
 
+module _ (U : ℕ) {z : 𝔾} {ρ : ℤ} (h : Within z ρ) (near : ρ ⩽ pos 2 *ℤ pos U) (T : ℕ) (T>0 : 1 ≤ T) where
   -- from the first on each term is at most ρ/(2U) of the one before
   real : room U ρ *ℤ tail ℤR U 1 T ρ ⩽ pos U *ℤ (pos 2 *ℤ ρ *ℤ Dᶻ U T)
   real = lin (ρ ∷ pos U ∷ tail ℤR U 1 T ρ ∷ Dᶻ U T ∷ Dᶻ U 1 ∷ pw ℤR ρ T ∷ [])
@@ -36,13 +36,8 @@ module _ (U : ℕ) {z : 𝔾} {ρ : ℤ} (h : Within z ρ) (near : ρ ⩽ pos 2 
 
   pub near_one : 0 < U → Within (ιᵍ (room U ρ) *ᵍ (Sᶜ U T z -ᵍ Dᵍ U T)) (pos 2 *ℤ ρ *ℤ Dᶻ U T)
   near_one U>0 = within_cancel (pos U) (pos_mono U>0) (subst (λ w. Within w (pos U *ℤ (pos 2 *ℤ ρ *ℤ Dᶻ U T))) out
-      (within_weaken (within_scale (room U ρ) room≥0 (within_tail U h 1 T T>0)) real))
+      (within_weaken (within_scale (room U ρ) (room≥0 U near) (within_tail U h 1 T T>0)) real))
     where
       out : ιᵍ (room U ρ) *ᵍ tail 𝔾R U 1 T z ≡ ιᵍ (pos U) *ᵍ (ιᵍ (room U ρ) *ᵍ (Sᶜ U T z -ᵍ Dᵍ U T))
       out = ap (λ w. ιᵍ (room U ρ) *ᵍ w) (tail_one 𝔾R U T z)
           ∙ ring! 𝔾R (ιᵍ (room U ρ) ∷ ιᵍ (pos U) ∷ Sᶜ U T z ∷ Dᵍ U T ∷ []) (search reifyᵍ depth 20) tt
-
-  pub size : 0 < U → Within (ιᵍ (room U ρ) *ᵍ Sᶜ U T z) ((pos 2 *ℤ pos U +ℤ ρ) *ℤ Dᶻ U T)
-  size U>0 = subst₂ Within (ring! 𝔾R (ιᵍ (room U ρ) ∷ Sᶜ U T z ∷ Dᵍ U T ∷ []) (search reifyᵍ depth 20) tt)
-      (ring! ℤR (ρ ∷ pos U ∷ Dᶻ U T ∷ []) (search reify depth 20) tt)
-      (within_add (near_one U>0) (within_scale (room U ρ) room≥0 (within_ι (Dᶻ U T) (nonneg_pos (D U T)))))

@@ -4,20 +4,16 @@ use native.Mathlib.Omega.{arith}
 use borrow.Author.Rules.{rules}
 use lib.ListN.{length}
 use lib.Seq.{length-take-le, take_all}
-use Rattle.stream.proofs.count.Statement.{statement}
-use Rattle.stream.proofs.count.Tie as tie
+use Rattle.stream.proofs.count.Goals as goal
 
-returns : tie.Need-returns
-returns c =
+pub returns-then-len-lt-KEPT : goal.returns-then-len-lt-KEPT
+returns-then-len-lt-KEPT c =
     let p = c.before.args.place in
     let n : length p.bytes ≡ 117 = search rules in
     sym (length-take-le p.len p.bytes (omega arith))
 
-returns-2 : tie.Need-returns-2
-returns-2 c =
+pub returns-else-len-lt-KEPT : goal.returns-else-len-lt-KEPT
+returns-else-len-lt-KEPT c =
     let p = c.before.args.place in
     let n : length p.bytes ≡ 117 = search rules in
     sym (ap length (take_all p.len p.bytes (omega arith)) ∙ n)
-
-pub count_spec : {M : Type 1} → statement M
-count_spec = tie.close (tie.spec returns returns-2)

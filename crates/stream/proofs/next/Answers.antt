@@ -20,8 +20,23 @@ use Rattle.stream.specs.declared.State.{State}
 use Rattle.stream.specs.declared.Answered.{Answered}
 use Rattle.stream.specs.Sheet.{reply_after, answer_line}
 use Rattle.stream.specs.Code.{Wrote}
-use Rattle.stream.proofs.next.Statement.{statement}
+use Rattle.stream.proofs.next.Goals as goal
+use Rattle.stream.proofs.next.Goals.{Start}
+use Rattle.stream.proofs.next.Lts as lts
+use Rattle.stream.proofs.next.Reads as reads
 use Rattle.stream.proofs.next.Tie as tie
+
+abbrev After-counted-2 : Type 0
+After-counted-2 = lts.After-counted2 tie.the-claims reads.Pre reads.Post tie.handed_clauses
+
+abbrev After-serial : Type 0
+After-serial = lts.After-serial tie.the-claims reads.Pre reads.Post tie.handed_clauses
+
+abbrev In-Is : Type 0
+In-Is = lts.After-known_told tie.the-claims reads.Pre reads.Post tie.handed_clauses
+
+abbrev Joined-serial : Type 0
+Joined-serial = lts.At-match-branch tie.the-claims reads.Pre reads.Post tie.handed_clauses
 
 -- ---- the machine's three ways
 module _ (s : State) (l : List ℕ) where
@@ -51,8 +66,8 @@ seven : {serial refusal : ℤ} (b : List ℕ) {b' : List ℕ} {w : ℕ} → SFit
 seven b f h = rw (back f) at h
 
 -- ---- what the code has read
-module _ (n : tie.After-serial) where
-  abbrev start : tie.Start
+module _ (n : After-serial) where
+  abbrev start : Start
   start = n.before.before.before.before.before
 
   abbrev line : List ℕ
@@ -61,8 +76,8 @@ module _ (n : tie.After-serial) where
   abbrev state : State
   state = start.args.state
 
-  asked : n.before.read-line.result ≡ read_line line
-  asked = n.before.read-line.ensures
+  asked : n.before.read_line-asked.result ≡ read_line line
+  asked = n.before.read_line-asked.ensures
 
   numbered : serial_of (read_line line) ≡ n.serial.result
   numbered = sym (n.serial.ensures ∙ ap serial_of asked)
@@ -71,98 +86,51 @@ module _ (n : tie.After-serial) where
   fits = search rules
 
 -- ---- once its serial is known
-module _ (k : tie.After-known-told) where
-  abbrev read : tie.After-serial
+module _ (k : In-Is) where
+  abbrev read : After-serial
   read = k.before.before.before
 
   abbrev serial : ℤ
-  serial = k.before.serial2.given.0.0
+  serial = k.in-Is.serial
 
   serial_fits : SFits w64 serial
-  serial_fits = sfits_mag serial k.known-told.given.0.1
+  serial_fits = sfits_mag serial k.known_told-1.given.0.1
 
   is_serial_lem : serial_of (read_line (line read)) ≡ Is serial
-  is_serial_lem = numbered read ∙ k.before.serial2.given.1
+  is_serial_lem = numbered read ∙ k.in-Is.is
 
 -- ---- its own answer, where it has no serial or one above the largest
-module _ (c : tie.After-counted2) where
-  abbrev joined : tie.At-match-branch
+module _ (c : After-counted-2) where
+  abbrev joined : Joined-serial
   joined = c.before.before.before.before.before
 
-  abbrev begun : tie.After-serial
+  abbrev begun : After-serial
   begun = joined.before
 
-  own : {largest : ℤ} → SFits w64 largest → joined.match.largest ≡ of_z w64 largest →
+  own : {largest : ℤ} → SFits w64 largest → joined.match-serial.largest ≡ of_z w64 largest →
       Wrote (record { bytes = (reply_of (read_line (line begun))).bytes; state = record { largest = largest } }) (start begun).args.out.now
-      c.before.before.before.reply.new.1.0 c.counted2.result
+      c.before.before.before.reply-own.new.1.0 c.counted-2.result
   own f e =
-      wrote (reply_of (read_line (line begun))) (start begun).pre (rw (asked begun) at c.before.before.before.reply.ensures) f e
-      c.counted2.ensures
+      wrote (reply_of (read_line (line begun))) (start begun).requires (rw (asked begun) at c.before.before.before.reply-own.ensures) f e
+      c.counted-2.ensures
 
-returns-2 : tie.Need-returns-2
-returns-2 c =
-    let n = begun c in
-    by_way (joined c).match.branch
-    (λ w. let k : tie.After-known-told = record { before = record { before = record { before = n; match = w.0 }; serial2 = w.1 }; known-told = w.2 } in
+pub returns : goal.returns
+returns c =
+    let n = begun c.before in
+    by_way (joined c.before).match-serial.branch
+    (λ w. let k : In-Is = record { before = record { before = record { before = n; match = w.0 }; serial2 = w.1 }; known-told = w.2 } in
     let high : le_z (serial k) (state n).largest ≡ false = rw (back (serial_fits k), back (fits n)) at w.3.left in
-    rw (above (state n) (line n) (is_serial_lem k) high) (own c (serial_fits k) w.4))
-    (λ w. rw (malformed (state n) (line n) (numbered n ∙ w.1.given.1)) (own c (fits n) w.2))
+    rw (above (state n) (line n) (is_serial_lem k) high) (own c.before (serial_fits k) w.4))
+    (λ w. rw (malformed (state n) (line n) (numbered n ∙ w.1.given.1)) (own c.before (fits n) w.2))
 
 -- ---- turned away, where its serial is not above the largest
-returns : tie.Need-returns
-returns c =
-    let r = c.before.before.before in
+pub returns-then-serial-largest : goal.returns-then-serial-largest
+returns-then-serial-largest c =
+    let r = c.before.before.before.before in
     let t = r.before.before in
     let k = t.before in
     let n = read k in
-    let low : le_z (serial k) (state n).largest ≡ true = rw (back (serial_fits k), back (fits n)) at t.if1.true in
+    let low : le_z (serial k) (state n).largest ≡ true = rw (back (serial_fits k), back (fits n)) at t.if-serial-largest.true in
     rw (not_above (state n) (line n) (is_serial_lem k) low)
-    (wrote (refused_reply (serial k) (pos 7)) (start n).pre (seven (start n).args.out.now (serial_fits k) r.refuse.ensures) (fits n) refl
-    c.counted.ensures)
-
-read-line-requires : tie.Need-read-line-requires
-read-line-requires c κs = search rules
-
-serial-requires : tie.Need-serial-requires
-serial-requires c κs = search rules
-
-enum-known-serial : tie.Need-enum-known-serial
-enum-known-serial c = search rules
-
-refuse-requires : tie.Need-refuse-requires
-refuse-requires c κs = search rules
-
-counted-requires : tie.Need-counted-requires
-counted-requires c κs = search rules
-
-same_length : tie.Need-same-length
-same_length c = search rules
-
-enum_told : tie.Need-enum-told
-enum_told c = search rules
-
-reply-requires : tie.Need-reply-requires
-reply-requires c κs = search rules
-
-counted-requires-2 : tie.Need-counted-requires-2
-counted-requires-2 c κs = search rules
-
-same-length-2 : tie.Need-same-length-2
-same-length-2 c = search rules
-
-pub next-spec : {M : Type 1} → statement M
-next-spec =
-    tie.close
-    (tie.spec
-    read-line-requires
-    serial-requires
-    enum-known-serial
-    refuse-requires
-    counted-requires
-    same_length
-    returns
-    enum_told
-    reply-requires
-    counted-requires-2
-    same-length-2
-    returns-2)
+    (wrote (refused_reply (serial k) (pos 7)) (start n).requires (seven (start n).args.out.now (serial_fits k) r.refuse-not_above.ensures) (fits n) refl
+    c.before.counted.ensures)

@@ -1,0 +1,6 @@
+-- `stream::empty` meets its contract: a line begins, behind none.
+use borrow.Author.Rules.{rules}
+use Rattle.stream.proofs.empty.Goals as goal
+
+pub returns : goal.returns
+returns c = c.new_line.ensures

@@ -1,0 +1,46 @@
+-- `text::reply` meets its contract: 6, then 5, then the operation's own.
+use mathlib.Core.Path.{◌≡◌}
+use native.Mathlib.Omega.{arith}
+use lib.IntN.{ℤ}
+use mir.Syntax.{w64}
+use mir.Val.{SFits}
+use borrow.Author.Rules.{rules}
+use Rattle.word.proofs.Fits.{back, sfits_mag}
+use Rattle.point.specs.declared.Point.{Point}
+use Rattle.exponential.specs.Answer.{exp_answer}
+use Rattle.logarithm.specs.Answer.{log_answer}
+use Rattle.text.specs.declared.Line.TheVariants.{Exp, Log}
+use Rattle.text.specs.Answer.{reply_of}
+use Rattle.text.proofs.Call.{short_buffer, line_called}
+use Rattle.text.proofs.reply.Goals as goal
+
+pub returns-then-out-lt-ANSWER_ROOM : goal.returns-then-out-lt-ANSWER_ROOM
+returns-then-out-lt-ANSWER_ROOM c =
+    let a = short_buffer (reply_of c.args.line) c.args.out.now (omega arith) in
+    record { refusal = a.0; count = a.1.0; bytes = a.1.1 }
+
+pub returns-in-Malformed : goal.returns-in-Malformed
+unfolding reply_of
+returns-in-Malformed c = rw c.in-Malformed.is c.refuse.ensures
+
+pub returns-in-Exp : goal.returns-in-Exp
+unfolding reply_of
+returns-in-Exp c =
+    let k = c.in-Exp in
+    let serial : SFits w64 k.serial = sfits_mag k.serial k.known_told-1-own.given.0.1 in
+    let n : SFits w64 k.n = sfits_mag k.n k.known_told-1-own.given.1.0.1 in
+    let exp : c.exp-answer.result ≡ exp_answer k.n k.exponent.x k.exponent.y k.start.x k.start.y = rw (back n) at c.exp-answer.ensures.answer in
+    let a = line_called (Exp k.serial k.n k.exponent k.start) k.is serial c.if-out-lt-ANSWER_ROOM.false
+    (rw (back serial, back n, exp) at c.put_answer.ensures) in
+    record { refusal = a.0; count = a.1.0; bytes = a.1.1 }
+
+pub returns-in-Log : goal.returns-in-Log
+unfolding reply_of
+returns-in-Log c =
+    let k = c.in-Log in
+    let serial : SFits w64 k.serial = sfits_mag k.serial k.known_told-in-Log-1-own.given.0.1 in
+    let n : SFits w64 k.n = sfits_mag k.n k.known_told-in-Log-1-own.given.1.0.1 in
+    let log : c.log-answer.result ≡ log_answer k.n k.point.x k.point.y = rw (back n) at c.log-answer.ensures.answer in
+    let a = line_called (Log k.serial k.n k.point) k.is serial c.if-out-lt-ANSWER_ROOM.false
+    (rw (back serial, back n, log) at c.put_answer-in-Log.ensures) in
+    record { refusal = a.0; count = a.1.0; bytes = a.1.1 }
