@@ -12,7 +12,6 @@ use Rattle.algebra.proofs.Reify.{ring!, reify}
 use Rattle.algebra.proofs.Order.{⩽_trans, ⩽_refl, ⩽_of_eq}
 use Rattle.algebra.proofs.Linear.{lin, ◌&◌, none}
 use Rattle.word.proofs.Compare.{between_true}
-use Rattle.answer.specs.declared.Figures.{Figures}
 use Rattle.answer.specs.declared.Answer.{Answer}
 use Rattle.answer.specs.declared.Answer.TheVariants.{Answered, Refused}
 use Rattle.book.specs.declared.Book.{Book}
