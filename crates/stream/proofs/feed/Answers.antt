@@ -17,7 +17,9 @@ use Rattle.stream.specs.Machine.{Place, new_line}
 use Rattle.stream.specs.Sheet.{machine, place_of}
 use Rattle.stream.proofs.Progress.{Reached, begin, scanned, answered, at_end, no_room, stopped}
 use Rattle.stream.proofs.Kept.{rest_length, rest_within, rest_put}
+use Rattle.stream.specs.Machine.{read_within}
 use Rattle.stream.proofs.feed.Goals as goal
+use Rattle.stream.proofs.feed.Goals.{then-loop-end-test+else-out-written-ge-ANSWER_ROOM, else-loop-end-test}
 use Rattle.stream.proofs.feed.Goals.{Start}
 use Rattle.stream.proofs.feed.Lts as lts
 use Rattle.stream.proofs.feed.Reads as reads
@@ -135,6 +137,10 @@ pub returns : goal.returns
 returns c =
     let l = c.before.before.before in
     let r = scanned machine l.loop-end.invariant.1 (ends l) in
-    let left = elim c.loop-end-test.branch [ _ ↦ ? ] in
+    let left : read_within machine (length c.args.out.now) (place_of c.args.place) c.args.piece.now ≡ c.loop-end.end = elim c.loop-end-test.branch [
+      | then-loop-end-test+else-out-written-ge-ANSWER_ROOM w ↦
+        no_room machine r w.loop-end-test.true ((ends l).mark w.loop-end-test.true) (omega (arith, w.if-out-written-ge-ANSWER_ROOM.false, same l))
+      | else-loop-end-test w ↦ at_end machine r w.loop-end-test.false
+    ] in
     let all = stopped machine r left c.extended.ensures in
     record { read = all.0; place = all.1.0; count = all.1.1.0; bytes = all.1.1.1 }
