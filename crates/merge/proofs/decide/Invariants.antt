@@ -1,0 +1,13 @@
+-- `merge::decide` meets its contract: what is left to merge is refused as the whole is.
+use mathlib.Core.Path.{◌≡◌}
+use Prim.Native.Nat.{◌+◌}
+use lib.ListN.{length}
+use Rattle.merge.specs.Merge.{merge}
+use Rattle.merge.proofs.Turn.{Left, rest}
+use Rattle.merge.proofs.decide.Given as goal
+
+abbrev pub invariant-loop-r : goal.invariant-loop-r
+invariant-loop-r l = (l : Left l.p l.q l.f l.g) × ((rest l).refusal ≡ (merge l.a l.b).refusal)
+
+abbrev pub decreases-loop-r : goal.decreases-loop-r
+decreases-loop-r l = length l.p + length l.q

@@ -1,0 +1,34 @@
+-- `merge::put_all` meets its contract: by the last byte.
+use native.Mathlib.Omega.{arith}
+use lib.ListN.{length, length-append}
+use mathlib.Core.Path.{ap}
+use mathlib.Core.List.{[], ◌∷◌}
+use Rattle.buffer.proofs.Put.{nothing}
+use Rattle.buffer.proofs.Fitting.{fitted_put}
+use Rattle.merge.proofs.Follows.{text_none, text_newline, text_other}
+use borrow.Author.Rules.{rules}
+use Rattle.merge.proofs.put_all.Goals as goal
+
+pub returns-then-n-eq0 : goal.returns-then-n-eq0
+returns-then-n-eq0 c = let s = c.before.before.before.before.args in rw (text_none s.s.now c.before.if-n-eq0.true) (nothing s.out.now s.at)
+
+pub returns-then-s-n-eq10 : goal.returns-then-s-n-eq10
+returns-then-s-n-eq10 c =
+    let p = c.before.before.before in
+    let t = p.before.before in
+    let k = c.before.before.before.before.before.before.before.before.before.before in
+    let is = text_newline k.args.s.now t.before.before.if-n-eq0.false t.if-s-n-eq10.true in
+    rw is (fitted_put (rw is at k.requires) p.put_bytes.ensures)
+
+pub put_line-requires : goal.put_line-requires
+put_line-requires c =
+    let t = c.before.before in
+    let k = c.before.before.before.before.before.before.before in
+    omega (arith, k.requires, ap length (text_other k.args.s.now t.before.before.if-n-eq0.false t.if-s-n-eq10.false), length-append k.args.s.now (10 ∷ []))
+
+pub returns : goal.returns
+returns c =
+    let p = c.before.before.before in
+    let t = p.before.before in
+    let k = c.before.before.before.before.before.before.before.before.before.before in
+    rw (text_other k.args.s.now t.before.before.if-n-eq0.false t.if-s-n-eq10.false) p.put_line.ensures

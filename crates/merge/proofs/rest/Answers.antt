@@ -1,0 +1,17 @@
+-- `merge::rest` meets its contract.
+use native.Mathlib.Omega.{arith}
+use Rattle.merge.proofs.Found.{within, behind_newline, behind_last}
+use borrow.Author.Rules.{rules}
+use Rattle.merge.proofs.rest.Goals as goal
+
+pub slice_bounds-result-count-else-end-s : goal.slice_bounds-result-count-else-end-s
+slice_bounds-result-count-else-end-s c = omega (arith, within _ _ c.before.before.find_byte-end.ensures)
+
+pub UNKNOWN-slice-bounds-result-start-2 : goal.UNKNOWN-slice-bounds-result-start-2
+UNKNOWN-slice-bounds-result-start-2 c = omega (arith, within _ _ c.before.find_byte-end.ensures)
+
+pub returns-then-end-s : goal.returns-then-end-s
+returns-then-end-s c = let k = c.before.before.before in behind_newline k.before.before.args.s.now k.find_byte-end.result k.find_byte-end.ensures
+
+pub returns-else-end-s : goal.returns-else-end-s
+returns-else-end-s c = let k = c.before.before.before in behind_last k.before.before.args.s.now k.find_byte-end.result k.find_byte-end.ensures c.before.before.if-end-s.false

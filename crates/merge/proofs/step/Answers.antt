@@ -1,0 +1,12 @@
+-- `merge::step` meets its contract: the rest of the sheet that the choice reads from.
+use borrow.Author.Rules.{rules}
+use Rattle.merge.proofs.step.Goals as goal
+
+pub returns-in-First : goal.returns-in-First
+returns-in-First c = rw c.before.in-First.is c.before.rest.ensures
+
+pub returns-in-Passed : goal.returns-in-Passed
+returns-in-Passed c = rw c.before.in-Passed.is c.before.rest-in-Passed.ensures
+
+pub returns-in-Second : goal.returns-in-Second
+returns-in-Second c = rw c.before.in-Second.is c.before.rest-in-Second.ensures

@@ -1,0 +1,15 @@
+-- `merge::write` meets its contract: what is still to come, behind what is written, makes the whole.
+use Prim.Native.Nat.{◌+◌}
+use lib.ListN.{length}
+use Rattle.merge.specs.Merge.{merge}
+use Rattle.merge.specs.Call.{text}
+use Rattle.merge.proofs.Turn.{Left, rest}
+use Rattle.merge.proofs.Written.{Writing}
+use Rattle.merge.proofs.write.Given as goal
+
+abbrev pub invariant-loop-p : goal.invariant-loop-p
+invariant-loop-p l =
+    (l : Left l.p l.q l.f l.g) × Writing (text (merge l.a l.b).copied) l.initial.out l.out (rest l) l.w
+
+abbrev pub decreases-loop-p : goal.decreases-loop-p
+decreases-loop-p l = length l.p + length l.q
