@@ -19,8 +19,8 @@ DECLARED = re.compile(r"^\s*(?:\|\s*)?" + WORDS + "(" + ID + r")((?:\s+" + ID + 
 LOCAL = re.compile(r"\b(?:let|in)\s+(" + ID + r")\s*(?::|=)")
 BOUND = re.compile(r"[({](" + ID + r"(?:\s+" + ID + r")*)\s+:\s")
 USED = re.compile(r"^\s*(?:pub\s+)?(?:ghost\s+)?use\s+([^\s{;]+?)\.\{([^}]*)\}", re.S | re.M)
-# Names that would fall together with a field's, which a clause could not tell apart.
-GIVEN = {"binary-exponent": "binary_exponent_of", "errorBound": "error_bound_of"}
+# Names that would fall together with a field's, which a clause could not tell apart, or with another definition's.
+GIVEN = {"binary-exponent": "binary_exponent_of", "errorBound": "error_bound_of", "refusal-number": "denial_number"}
 SKIPPED = {"record", "data", "let", "use", "module", "in", "λ", "where", "elim", "if", "then", "else", "→", "×", "="}
 LETTER = r"0-9A-Za-z\u0370-\u03ff\u2100-\u214f\u1d00-\u1dbf\u2070-\u209f\u00b2\u00b3\u00b9⩽⋖"
 

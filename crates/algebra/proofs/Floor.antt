@@ -1,7 +1,7 @@
 -- Rounding: a shift right is the floor of the quotient (towards minus infinity, for negative numbers too); floor(quotient + 1/2); a
 -- quotient rounded up.
 use mathlib.Core.Path.{◌≡◌, ap}
-use mathlib.Core.List.{List, [], ◌∷◌}
+use mathlib.Core.List.{[], ◌∷◌}
 use Prim.Native.Nat.{ℕ, ◌+◌, ◌*◌, ◌/◌, ◌≤◌, ◌<◌}
 use native.Mathlib.Nat.{div-add-mod, div-one, mod-lt}
 use native.Mathlib.Omega.{arith}

@@ -22,8 +22,8 @@ charged Second cost b = balances b.first (b.second -ℤ cost)
 
 -- ---- the opening
 -- "Refused: 10"
-abbrev pub refusal_number_lem : ℤ
-refusal_number_lem = pos 10
+abbrev pub denial_number : ℤ
+denial_number = pos 10
 
 -- "an allowance of 0 to 1,000,000 steps"
 abbrev pub is_allowance : ℤ → Bool
@@ -33,4 +33,4 @@ is_allowance a = between (pos 0) (pos 1000000) a
 unfoldable pub opened : ℤ → ℤ → Opening
 opened first second = cond (is_allowance first && is_allowance second)
     (record { refusal = pos 0; book = balances first second })
-    (record { refusal = refusal_number_lem; book = balances (pos 0) (pos 0) })
+    (record { refusal = denial_number; book = balances (pos 0) (pos 0) })

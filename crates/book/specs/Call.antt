@@ -16,7 +16,7 @@ use Rattle.book.specs.declared.Caller.TheVariants.{Is, Neither}
 use Rattle.book.specs.declared.Reply.{Reply}
 use Rattle.book.specs.declared.Reply.TheVariants.{Given, Denied}
 use Rattle.book.specs.declared.Settled.{Settled}
-use Rattle.book.specs.Book.{balance, charged, refusal_number_lem}
+use Rattle.book.specs.Book.{balance, charged, denial_number}
 
 -- ---- a call
 pub data Operation : Type 0 where
@@ -72,7 +72,7 @@ outcome c b = outcome_for (caller_of c.caller) c.operation b
 -- "the answer record": that of EXP or LOG, or 10 and zeros
 unfoldable pub reply_record : Reply → List ℤ
 reply_record (Given a) = record_of a
-reply_record Denied = numbers refusal_number_lem no_figures
+reply_record Denied = numbers denial_number no_figures
 
 -- what is said of an answer, of a reply that gives one
 abbrev pub OfAnswer : (Answer → Type 0) → Reply → Type 0

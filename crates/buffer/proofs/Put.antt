@@ -1,11 +1,11 @@
 -- Bytes written over a buffer, one run after the other.
 use mathlib.Core.Path.{◌≡◌, refl, sym, ap, ◌∙◌}
-use mathlib.Core.List.{List, [], ◌∷◌, ◌++◌, append-nil, append_assoc}
+use mathlib.Core.List.{List, [], ◌∷◌, ◌++◌, append_assoc}
 use Prim.Native.Nat.{ℕ, suc, ◌+◌, ◌-◌, ◌≤◌}
 use native.Mathlib.Nat.{le_refl, add-suc, suc-add, add-zero, zero-add, add_assoc}
 use native.Mathlib.Omega.{arith}
 use lib.ListN.{length, set, take, drop, length-append, length-drop}
-use lib.Seq.{sets, length-sets, sets-eq, take_all, drop-length, drop-drop}
+use lib.Seq.{sets, length-sets, sets-eq, take_all}
 use borrow.Rule.Slice.PartMut.{mid_of, put_mid, Post-is}
 use Rattle.buffer.specs.Code.{Put, Front}
 
@@ -60,11 +60,3 @@ copied b at xs {part} h e = record {
 module _ (b : List ℕ) (at : ℕ) (h : at ≤ length b) where
   pub rest : mid_of at (length b - at) b ≡ drop at b
   rest = take_all (length b - at) (drop at b) (simp length-drop (le_refl (length b - at)))
-
-  pub in_whole : {xs part : List ℕ} {n : ℕ} → at + length xs ≤ length b → Front xs (mid_of at (length b - at) b) part n →
-      Put b at xs (put_mid at (length b - at) b part) (at + n)
-  in_whole {xs} k f = record {
-    bytes = rw (f.bytes, rest, Post-is at (length b) b h, drop-length b, append-nil, drop-drop)
-        (sym (append_assoc (take at b) xs (drop (at + length xs) b)) ∙ sym (sets-eq xs b at k));
-    after = ap (λ (k : ℕ). at + k) f.count;
-  }

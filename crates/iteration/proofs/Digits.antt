@@ -16,7 +16,7 @@ use Rattle.algebra.proofs.Linear.{lin, lin<, ◌&◌, ◌&<◌, none}
 use Rattle.algebra.proofs.Floor.{floor_lo, floor_hi}
 use Rattle.word.proofs.Compare.{le_z_true, le_le_z, lt_le_z, lt_lt_z, le_lt_z}
 use Rattle.point.specs.Digit.{Trit, t-, t0, t+, IsDigit}
-use Rattle.point.specs.Point.{gauss, point}
+use Rattle.point.specs.Point.{gauss}
 use Rattle.iteration.specs.declared.State.{State}
 use Rattle.iteration.specs.declared.Mode.{Mode}
 use Rattle.iteration.specs.declared.Mode.TheVariants.{Exp, Log}

@@ -8,14 +8,13 @@ use lib.Signed.{shr_z}
 use mir.Syntax.{w64}
 use mir.Val.{SFits, to_z, of_z}
 use Rattle.algebra.specs.Gauss.{𝔾, negᵍ, ◌+ᵍ◌, two}
-use Rattle.algebra.specs.Order.{◌⩽◌}
-use Rattle.algebra.specs.Size.{Size, Parts}
+use Rattle.algebra.specs.Size.{Size}
 use Rattle.algebra.proofs.Integer.{ℤR}
 use Rattle.algebra.proofs.Reify.{ring!, reify}
 use Rattle.algebra.proofs.Linear.{lin, ◌&◌, none}
 use Rattle.algebra.proofs.Power.{two≥1, two_mono, two_part}
 use Rattle.algebra.proofs.Parts.{size_add, size_neg, size_mul}
-use Rattle.word.proofs.Fits.{zero_sub, sfits_size, sfits_neg}
+use Rattle.word.proofs.Fits.{sfits_size}
 use Rattle.word.proofs.Shift.{shift_constant_word}
 use Rattle.iteration.specs.Select.{low_x, high_x, low_y, half}
 use Rattle.iteration.specs.Code.{BackPre, LessPre}

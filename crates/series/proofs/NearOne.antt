@@ -1,9 +1,9 @@
 -- Near zero the series is near one: with r = ρ/U at most 2, S T z / D T is within r/(1 − r/2) of 1, so its length is at most (1 + r/2)/(1
 -- − r/2).
-use mathlib.Core.Path.{◌≡◌, ◌∙◌, ap, subst, subst₂}
+use mathlib.Core.Path.{◌≡◌, ◌∙◌, ap, subst}
 use mathlib.Core.List.{[], ◌∷◌}
 use Prim.Native.Nat.{ℕ, ◌≤◌, ◌<◌}
-use lib.IntN.{ℤ, pos, ◌+ℤ◌, ◌-ℤ◌, ◌*ℤ◌}
+use lib.IntN.{ℤ, pos, ◌-ℤ◌, ◌*ℤ◌}
 use Rattle.algebra.specs.Order.{◌⩽◌}
 use Rattle.algebra.specs.Gauss.{𝔾, ιᵍ, ◌-ᵍ◌, ◌*ᵍ◌}
 use Rattle.algebra.specs.Size.{Within}
@@ -13,7 +13,7 @@ use Rattle.algebra.proofs.Reify.{ring!, reify, reifyᵍ}
 use Rattle.algebra.proofs.Order.{nonneg_pos, nonneg_mul, pos_mono}
 use Rattle.algebra.proofs.Linear.{lin, ◌&◌, none}
 use Rattle.algebra.proofs.Gauss.{𝔾R}
-use Rattle.algebra.proofs.Within.{within_add, within_weaken, pw_nonneg, within_ι, within_scale, within_cancel}
+use Rattle.algebra.proofs.Within.{within_weaken, pw_nonneg, within_scale, within_cancel}
 use Rattle.series.specs.Series.{D, Dᵍ, Dᶻ}
 use Rattle.series.proofs.Series.{Sᶜ, tail, tail_one}
 use Rattle.series.proofs.Majorant.{within_tail}

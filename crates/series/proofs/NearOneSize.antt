@@ -1,22 +1,18 @@
 -- Near zero the series is not much longer than one.
-use mathlib.Core.Path.{◌≡◌, ◌∙◌, ap, subst, subst₂}
+use mathlib.Core.Path.{subst₂}
 use mathlib.Core.List.{[], ◌∷◌}
 use Prim.Native.Nat.{ℕ, ◌≤◌, ◌<◌}
-use lib.IntN.{ℤ, pos, ◌+ℤ◌, ◌-ℤ◌, ◌*ℤ◌}
+use lib.IntN.{ℤ, pos, ◌+ℤ◌, ◌*ℤ◌}
 use Rattle.algebra.specs.Order.{◌⩽◌}
-use Rattle.algebra.specs.Gauss.{𝔾, ιᵍ, ◌-ᵍ◌, ◌*ᵍ◌}
+use Rattle.algebra.specs.Gauss.{𝔾, ιᵍ, ◌*ᵍ◌}
 use Rattle.algebra.specs.Size.{Within}
 use Rattle.algebra.proofs.Integer.{ℤR}
-use Rattle.algebra.proofs.Ring.{pw}
 use Rattle.algebra.proofs.Reify.{ring!, reify, reifyᵍ}
-use Rattle.algebra.proofs.Order.{nonneg_pos, nonneg_mul, pos_mono}
-use Rattle.algebra.proofs.Linear.{lin, ◌&◌, none}
+use Rattle.algebra.proofs.Order.{nonneg_pos}
 use Rattle.algebra.proofs.Gauss.{𝔾R}
-use Rattle.algebra.proofs.Within.{within_add, within_weaken, pw_nonneg, within_ι, within_scale, within_cancel}
+use Rattle.algebra.proofs.Within.{within_add, within_ι, within_scale}
 use Rattle.series.specs.Series.{D, Dᵍ, Dᶻ}
-use Rattle.series.proofs.Series.{Sᶜ, tail, tail_one}
-use Rattle.series.proofs.Majorant.{within_tail}
-use Rattle.series.proofs.Decay.{decay}
+use Rattle.series.proofs.Series.{Sᶜ}
 use Rattle.series.proofs.NearOne.{room, room≥0, near_one}
 
 module _ (U : ℕ) {z : 𝔾} {ρ : ℤ} (h : Within z ρ) (near : ρ ⩽ pos 2 *ℤ pos U) (T : ℕ) (T>0 : 1 ≤ T) where

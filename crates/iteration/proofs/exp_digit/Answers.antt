@@ -7,7 +7,6 @@ use lib.IntN.{ℤ, pos, negsuc, ◌*ℤ◌}
 use lib.Signed.{le_z}
 use mir.Syntax.{w64}
 use mir.Val.{SFits, to_z, of_z}
-use borrow.Author.Rules.{rules}
 use Rattle.algebra.specs.Gauss.{two}
 use Rattle.word.proofs.Fits.{back, sfits_mag}
 use Rattle.iteration.specs.Select.{cut, exp_select}

@@ -5,7 +5,6 @@ use native.Mathlib.Omega.{arith}
 use lib.IntN.{pos, ◌-ℤ◌, +ℤ_idr}
 use mir.Syntax.{w64}
 use mir.Val.{to_z}
-use borrow.Author.Rules.{rules}
 use Rattle.algebra.specs.Gauss.{two}
 use Rattle.algebra.specs.Size.{Size}
 use Rattle.word.proofs.Fits.{back, sfits_mag}

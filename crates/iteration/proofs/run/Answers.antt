@@ -10,9 +10,7 @@ use Rattle.table_numbers.specs.Promise.{look}
 use Rattle.table_numbers.specs.Table.{step_table}
 use Rattle.table_numbers.specs.Rows.{number, none, step_row}
 use Rattle.table_numbers.proofs.RowLaws.{row_entry}
-use Rattle.iteration.specs.declared.State.{State}
-use Rattle.iteration.specs.declared.Mode.{Mode}
-use Rattle.iteration.specs.Run.{select, run, Fits}
+use Rattle.iteration.specs.Run.{select, run}
 use Rattle.iteration.specs.Code.{StepPre, step_of}
 use Rattle.iteration.proofs.Loop.{onward, run_more, step_is, step_ok}
 use Rattle.iteration.proofs.run.Goals as goal

@@ -1,5 +1,4 @@
 -- `iteration::select` meets its contract.
-use borrow.Author.Rules.{rules}
 use Rattle.iteration.specs.Run.{select}
 use Rattle.iteration.proofs.select.Goals as goal
 

@@ -1,6 +1,5 @@
 -- `iteration::step` meets its contract.
 use mathlib.Core.Path.{◌≡◌, sym, ◌∙◌, ap, subst}
-use borrow.Author.Rules.{rules}
 use Rattle.algebra.specs.Gauss.{◌-ᵍ◌}
 use Rattle.word.proofs.Fits.{back, sfits_mag}
 use Rattle.point.specs.Point.{gauss, point}

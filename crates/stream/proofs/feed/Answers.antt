@@ -139,7 +139,7 @@ returns c =
     let r = scanned machine l.loop-end.invariant.1 (ends l) in
     let left : read_within machine (length c.args.out.now) (place_of c.args.place) c.args.piece.now ≡ c.loop-end.end = elim c.loop-end-test.branch [
       | then-loop-end-test+else-out-written-ge-ANSWER_ROOM w ↦
-        no_room machine r w.loop-end-test.true ((ends l).mark w.loop-end-test.true) (omega (arith, w.if-out-written-ge-ANSWER_ROOM.false, same l))
+          no_room machine r w.loop-end-test.true ((ends l).mark w.loop-end-test.true) (omega (arith, w.if-out-written-ge-ANSWER_ROOM.false, same l))
       | else-loop-end-test w ↦ at_end machine r w.loop-end-test.false
     ] in
     let all = stopped machine r left c.extended.ensures in

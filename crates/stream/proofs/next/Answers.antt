@@ -66,10 +66,10 @@ returns c =
     let fits : SFits w64 c.args.state.largest = search rules in
     elim c.match-serial.branch [
       | in-Is+else-serial-largest w ↦
-        let k = w.in-Is in
-        let fit : SFits w64 k.serial = sfits_mag k.serial k.known_told-1-own.given.0.1 in
-        let high : le_z k.serial c.args.state.largest ≡ false = rw (back fit, back fits) at w.if-serial-largest.false in
-        rw (above c.args.state c.args.line.now (numbered ∙ k.is) high) (own c fit w.largest-is)
+          let k = w.in-Is in
+          let fit : SFits w64 k.serial = sfits_mag k.serial k.known_told-1-own.given.0.1 in
+          let high : le_z k.serial c.args.state.largest ≡ false = rw (back fit, back fits) at w.if-serial-largest.false in
+          rw (above c.args.state c.args.line.now (numbered ∙ k.is) high) (own c fit w.largest-is)
       | in_default w ↦ rw (malformed c.args.state c.args.line.now (numbered ∙ w.in_default.is)) (own c fits w.largest-is)
     ]
 

@@ -1,7 +1,6 @@
 -- `tables::cell_of` meets its contract: 256 outside, and inside the cell's number.
 use mathlib.Core.Path.{◌≡◌, sym, ◌∙◌}
 use mathlib.Core.Bool.{true}
-use borrow.Author.Rules.{rules}
 use Rattle.word.proofs.Fits.{back}
 use Rattle.table_numbers.specs.Cell.{is_cell}
 use Rattle.tables.proofs.Cells.{no_number, in_table, cell_number, cell_fits}

@@ -1,5 +1,4 @@
 -- `tables::is_cell` meets its contract.
-use borrow.Author.Rules.{rules}
 use Rattle.word.proofs.Fits.{back}
 use Rattle.table_numbers.specs.Cell.{is_cell}
 use Rattle.tables.proofs.is_cell.Goals as goal

@@ -1,6 +1,5 @@
 -- `tables::reciprocal_log` meets its contract: the look-up's, at the cell's number.
 use mathlib.Core.Path.{sym, ◌∙◌, ap, ap₂}
-use borrow.Author.Rules.{rules}
 use Rattle.word.proofs.Fits.{back}
 use Rattle.table_numbers.specs.Cell.{cell_of}
 use Rattle.table_numbers.specs.Rows.{entry, reciprocal_log_at}

@@ -1,5 +1,4 @@
 -- `answer::Answer::record` meets its contract.
-use borrow.Author.Rules.{rules}
 use Rattle.word.proofs.Fits.{back, sfits_mag}
 use Rattle.answer.specs.Record.{record_of}
 use Rattle.answer.proofs.Answer.record.Goals as goal

@@ -1,5 +1,4 @@
 -- `answer::Refusal::number` meets its contract.
-use borrow.Author.Rules.{rules}
 use Rattle.answer.proofs.Refusal.number.Goals as goal
 
 pub returns-in-Steps : goal.returns-in-Steps
