@@ -10,25 +10,25 @@ use borrow.Author.Rules.{rules}
 use Rattle.merge.proofs.put_all.Goals as goal
 
 pub returns-then-n-eq0 : goal.returns-then-n-eq0
-returns-then-n-eq0 c = let s = c.before.before.before.before.args in rw (text_none s.s.now c.before.if-n-eq0.true) (nothing s.out.now s.at)
+returns-then-n-eq0 c = let s = c.args in rw (text_none s.s.now c.if-n-eq0.true) (nothing s.out.now s.at)
 
 pub returns-then-s-n-eq10 : goal.returns-then-s-n-eq10
 returns-then-s-n-eq10 c =
-    let p = c.before.before.before in
-    let t = p.before.before in
-    let k = c.before.before.before.before.before.before.before.before.before.before in
-    let is = text_newline k.args.s.now t.before.before.if-n-eq0.false t.if-s-n-eq10.true in
-    rw is (fitted_put (rw is at k.requires) p.put_bytes.ensures)
+    let p = c in
+    let t = p in
+    let k = c in
+    let is = text_newline k.args.s.now t.if-n-eq0.false t.if-s-n-eq10.true in
+    rw is (let e = p.put_bytes.ensures in fitted_put (rw is at k.requires) (e.count, e.bytes))
 
 pub put_line-requires : goal.put_line-requires
 put_line-requires c =
-    let t = c.before.before in
-    let k = c.before.before.before.before.before.before.before in
-    omega (arith, k.requires, ap length (text_other k.args.s.now t.before.before.if-n-eq0.false t.if-s-n-eq10.false), length-append k.args.s.now (10 ∷ []))
+    let t = c in
+    let k = c in
+    omega (arith, k.requires, ap length (text_other k.args.s.now t.if-n-eq0.false t.if-s-n-eq10.false), length-append k.args.s.now (10 ∷ []))
 
 pub returns : goal.returns
 returns c =
-    let p = c.before.before.before in
-    let t = p.before.before in
-    let k = c.before.before.before.before.before.before.before.before.before.before in
-    rw (text_other k.args.s.now t.before.before.if-n-eq0.false t.if-s-n-eq10.false) p.put_line.ensures
+    let p = c in
+    let t = p in
+    let k = c in
+    rw (text_other k.args.s.now t.if-n-eq0.false t.if-s-n-eq10.false) p.put_line.ensures

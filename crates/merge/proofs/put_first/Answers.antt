@@ -5,16 +5,16 @@ use borrow.Author.Rules.{rules}
 use Rattle.merge.proofs.put_first.Goals as goal
 
 pub slice_bounds-put_line-end : goal.slice_bounds-put_line-end
-slice_bounds-put_line-end c = let k = c.before.before in sym (first_length k.before.before.before.args.s.now k.find_byte-end.result k.find_byte-end.ensures)
+slice_bounds-put_line-end c = let k = c in sym (first_length k.args.s.now k.find_byte-end.result k.find_byte-end.ensures)
 
 pub put_line-requires : goal.put_line-requires
 put_line-requires c =
-    let k = c.before.before.before in
-    let s = k.before.before.before in
+    let k = c in
+    let s = k in
     rw (first_is s.args.s.now k.find_byte-end.result k.find_byte-end.ensures) s.requires
 
 pub returns : goal.returns
 returns c =
-    let p = c.before.before.before in
-    let k = p.before.before.before in
-    rw (first_is k.before.before.before.args.s.now k.find_byte-end.result k.find_byte-end.ensures) at p.put_line.ensures
+    let p = c in
+    let k = p in
+    rw (first_is k.args.s.now k.find_byte-end.result k.find_byte-end.ensures) at p.put_line.ensures

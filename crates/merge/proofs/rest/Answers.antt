@@ -5,13 +5,13 @@ use borrow.Author.Rules.{rules}
 use Rattle.merge.proofs.rest.Goals as goal
 
 pub slice_bounds-result-count-else-end-s : goal.slice_bounds-result-count-else-end-s
-slice_bounds-result-count-else-end-s c = omega (arith, within _ _ c.before.before.find_byte-end.ensures)
+slice_bounds-result-count-else-end-s c = omega (arith, within _ _ c.find_byte-end.ensures)
 
-pub UNKNOWN-slice-bounds-result-start-2 : goal.UNKNOWN-slice-bounds-result-start-2
-UNKNOWN-slice-bounds-result-start-2 c = omega (arith, within _ _ c.before.find_byte-end.ensures)
+pub slice_bounds-result-start-else-end-s : goal.slice_bounds-result-start-else-end-s
+slice_bounds-result-start-else-end-s c = omega (arith, within _ _ c.find_byte-end.ensures)
 
 pub returns-then-end-s : goal.returns-then-end-s
-returns-then-end-s c = let k = c.before.before.before in behind_newline k.before.before.args.s.now k.find_byte-end.result k.find_byte-end.ensures
+returns-then-end-s c = let k = c in behind_newline k.args.s.now k.find_byte-end.result k.find_byte-end.ensures
 
 pub returns-else-end-s : goal.returns-else-end-s
-returns-else-end-s c = let k = c.before.before.before in behind_last k.before.before.args.s.now k.find_byte-end.result k.find_byte-end.ensures c.before.before.if-end-s.false
+returns-else-end-s c = let k = c in behind_last k.args.s.now k.find_byte-end.result k.find_byte-end.ensures c.if-end-s.false
