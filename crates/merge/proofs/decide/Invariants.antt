@@ -7,7 +7,7 @@ use Rattle.merge.proofs.Turn.{Left, rest}
 use Rattle.merge.proofs.decide.Given as goal
 
 abbrev pub invariant-loop-r : goal.invariant-loop-r
-invariant-loop-r l = (l : Left l.p l.q l.f l.g) × ((rest l).refusal ≡ (merge l.a l.b).refusal)
+invariant-loop-r l = (k : Left l.p l.q l.f l.g) × ((rest k).refusal ≡ (merge l.a l.b).refusal)
 
 abbrev pub decreases-loop-r : goal.decreases-loop-r
 decreases-loop-r l = length l.p + length l.q

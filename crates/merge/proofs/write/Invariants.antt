@@ -9,7 +9,7 @@ use Rattle.merge.proofs.write.Given as goal
 
 abbrev pub invariant-loop-p : goal.invariant-loop-p
 invariant-loop-p l =
-    (l : Left l.p l.q l.f l.g) × Writing (text (merge l.a l.b).copied) l.initial.out l.out (rest l) l.w
+    (k : Left l.p l.q l.f l.g) × Writing (text (merge l.a l.b).copied) l.fn.out l.out (rest k) l.w
 
 abbrev pub decreases-loop-p : goal.decreases-loop-p
 decreases-loop-p l = length l.p + length l.q
