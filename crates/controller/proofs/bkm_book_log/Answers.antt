@@ -1,0 +1,12 @@
+-- `controller::bkm_book_log` meets its contract.
+use borrow.Author.Rules.{rules}
+use Rattle.word.proofs.Fits.{back}
+use Rattle.controller.proofs.Call.{booked}
+use Rattle.controller.proofs.bkm_book_log.Goals as goal
+
+pub returns : goal.returns
+returns c =
+    let s = c.ranges in
+    let h = c.book_answer.ensures in
+    let told = booked (rw (back s.caller, back s.n, back s.x, back s.y) at c.log-s.ensures.outcome) (h.answer, h.book) in
+    record { answer = told.0; book = told.1 }
