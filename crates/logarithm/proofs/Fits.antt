@@ -32,13 +32,13 @@ use Rattle.table_numbers.specs.Rows.{number}
 use Rattle.table_numbers.proofs.Promises.{StepPromise, ReciprocalPromise}
 use Rattle.iteration.specs.declared.Mode.TheVariants.{Log}
 use Rattle.iteration.specs.Run.{Fits}
-use Rattle.logarithm.specs.Reduction.{turned, quadrant, turns_back, quarters, spelling, bits, bit_length, scaled, up, down, column, row, cell_x, cell_y, reciprocal_of}
+use Rattle.logarithm.specs.Reduction.{turned, turns_back, quarters, spelling, bits, bit_length, scaled, up, down, column, row, cell_x, cell_y, reciprocal_of}
 use Rattle.logarithm.specs.Answer.{begun, error_bound_of}
 use Rattle.logarithm.specs.Code.{turn_of, ScalePre, ReducePre, BoundPre, bound_at, Accepted}
 use Rattle.logarithm.proofs.Quadrant.{turn_is, cone_pos, cone_parts}
 use Rattle.logarithm.proofs.Scale.{length_law, length_le, scaled_exact, Scaled, scaled_ranges, scaled_parts}
 use Rattle.logarithm.proofs.Cell.{reciprocal_parts, in_table}
-use Rattle.logarithm.proofs.Convergence.{converging_run, point_size, most, log_short, sum_size, begun_converging, begun_entry}
+use Rattle.logarithm.proofs.Convergence.{converging_run, point_size, log_short, sum_size, begun_converging, begun_entry}
 use Rattle.logarithm.proofs.Close.{cone, M-is, begun_short}
 
 -- ---- the turn

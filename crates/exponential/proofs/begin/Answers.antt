@@ -2,7 +2,6 @@
 use mathlib.Core.Path.{◌≡◌, sym, ◌∙◌, ap, subst}
 use native.Mathlib.Omega.{arith}
 use lib.IntN.{pos, nat_abs}
-use borrow.Author.Rules.{rules}
 use Rattle.word.proofs.Fits.{back, sfits_mag}
 use Rattle.point.specs.Point.{gauss}
 use Rattle.point.proofs.InLimits.{steps_cast, parts_say}

@@ -6,7 +6,6 @@ use lib.IntN.{ℤ, pos, negsuc, ◌-ℤ◌, ◌*ℤ◌}
 use lib.Signed.{shr_z}
 use mir.Syntax.{w64}
 use mir.Val.{to_z, of_z}
-use borrow.Author.Rules.{rules}
 use Rattle.word.proofs.Fits.{back, word_pos}
 use Rattle.point.specs.Point.{gauss}
 use Rattle.exponential.specs.Answer.{rounding_share}

@@ -3,7 +3,6 @@ use mathlib.Core.Path.{◌≡◌, sym, ◌∙◌, ap, subst}
 use Prim.Native.Nat.{◌-◌}
 use native.Mathlib.Omega.{arith}
 use lib.IntN.{pos, nat_abs}
-use borrow.Author.Rules.{rules}
 use Rattle.word.proofs.Fits.{back, sfits_mag}
 use Rattle.point.specs.declared.Point.{Point}
 use Rattle.point.specs.Point.{gauss}

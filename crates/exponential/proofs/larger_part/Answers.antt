@@ -2,7 +2,6 @@
 use mathlib.Core.Path.{◌≡◌, sym, ◌∙◌, ap}
 use mathlib.Core.Bool.{true, false}
 use lib.Signed.{lt_z}
-use borrow.Author.Rules.{rules}
 use Rattle.algebra.specs.Size.{abs}
 use Rattle.algebra.proofs.Larger.{larger_re, larger_im}
 use Rattle.word.proofs.Fits.{back, sfits_mag}

@@ -1,8 +1,6 @@
 -- `exponential::test` meets its contract.
 use mathlib.Core.Path.{◌≡◌, sym, ◌∙◌}
 use mathlib.Core.Bool.{true}
-use borrow.Author.Tests.{not-true, not-false}
-use borrow.Author.Rules.{rules}
 use Rattle.word.proofs.Fits.{back}
 use Rattle.point.specs.Point.{gauss}
 use Rattle.point.specs.Limits.{in_steps}

@@ -6,7 +6,6 @@ use lib.IntN.{ℤ, pos, negsuc, ◌-ℤ◌, ◌*ℤ◌}
 use lib.Signed.{shr_z}
 use mir.Syntax.{w64}
 use mir.Val.{SFits}
-use borrow.Author.Rules.{rules}
 use Rattle.algebra.proofs.Parts.{size_neg}
 use Rattle.word.proofs.Fits.{back, zero_sub, sfits_size}
 use Rattle.logarithm.specs.Code.{BoundPre}

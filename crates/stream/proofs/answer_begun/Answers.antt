@@ -2,7 +2,6 @@
 use mathlib.Core.Path.{◌≡◌, sym, ap, ◌∙◌}
 use native.Mathlib.Omega.{arith}
 use lib.ListN.{length, take}
-use borrow.Author.Rules.{rules}
 use Rattle.stream.specs.Sheet.{place_of}
 use Rattle.stream.proofs.Kept.{take_again, length_take_most}
 use Rattle.stream.proofs.answer_begun.Goals as goal

@@ -1,7 +1,6 @@
 -- `stream::answer_ended` meets its contract: the machine at the line where it lies, or at the line put together.
 use mathlib.Core.Path.{◌≡◌, ap, ◌∙◌}
 use native.Mathlib.Omega.{arith}
-use borrow.Author.Rules.{rules}
 use lib.Seq.{slice}
 use Rattle.scan.proofs.Find.{part_slice}
 use Rattle.stream.specs.declared.State.{State}

@@ -1,5 +1,4 @@
 -- `stream::empty` meets its contract: a line begins, behind none.
-use borrow.Author.Rules.{rules}
 use Rattle.stream.proofs.empty.Goals as goal
 
 pub returns : goal.returns

@@ -1,15 +1,12 @@
 -- `stream::feed` meets its contract: a line a turn, and the last one is left begun.
 use mathlib.Core.Path.{◌≡◌}
-use mathlib.Core.Logic.{⊎_elim}
 use mathlib.Core.List.{List}
 use Prim.Native.Nat.{ℕ, ◌≤◌, ◌+◌, ◌-◌}
 use native.Mathlib.Omega.{arith}
-use borrow.Author.Rules.{rules}
-use borrow.Author.Tests.{leb-true, leb-false}
+use borrow.Author.Tests.{leb-true}
 use lib.ListN.{length}
 use borrow.Rule.Slice.PartMut.{put_mid}
 use Rattle.buffer.proofs.Put.{kept}
-use Rattle.scan.specs.Find.{find_byte}
 use Rattle.scan.proofs.Find.{Ended, ended}
 use Rattle.text.specs.Answer.{answer_room}
 use Rattle.stream.specs.declared.State.{State}

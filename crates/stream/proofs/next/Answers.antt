@@ -11,7 +11,6 @@ use mir.Val.{SFits, to_z, of_z}
 use borrow.Author.Rules.{rules}
 use borrow.Author.Tests.{le-ltb}
 use Rattle.word.proofs.Fits.{back, sfits_mag}
-use Rattle.buffer.proofs.Either.{by_way}
 use Rattle.scan.specs.declared.Number.TheVariants.{Is, Not}
 use Rattle.text.specs.Line.{read_line, serial_of}
 use Rattle.text.specs.Answer.{Reply, refused_reply, reply_of, answer_room}

@@ -1,5 +1,4 @@
 -- `text::answer_line` meets its contract: the reply to the line that is read.
-use borrow.Author.Rules.{rules}
 use Rattle.text.specs.Answer.{reply}
 use Rattle.text.proofs.answer_line.Goals as goal
 

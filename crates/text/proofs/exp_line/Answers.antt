@@ -2,7 +2,6 @@
 use Prim.Native.Nat.{ℕ}
 use lib.IntN.{ℤ, pos}
 use lib.ListN.{get_or}
-use borrow.Author.Rules.{rules}
 use Rattle.word.proofs.Fits.{back, sfits_mag}
 use Rattle.scan.proofs.Numbers.{numbers_read}
 use Rattle.text.proofs.exp_line.Goals as goal

@@ -1,5 +1,4 @@
 -- `text::put_answer` meets its contract: the figures as a line, or the refusal.
-use borrow.Author.Rules.{rules}
 use Rattle.word.proofs.Fits.{back}
 use Rattle.answer.specs.Record.{record_of}
 use Rattle.text.proofs.Call.{turned_away}

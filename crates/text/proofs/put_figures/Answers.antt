@@ -7,7 +7,6 @@ use lib.ListN.{get_or}
 use lib.Signed.{mag}
 use mir.Syntax.{w64}
 use mir.Val.{to_z, of_z}
-use borrow.Author.Rules.{rules}
 use Rattle.word.proofs.Fits.{back, sfits_mag}
 use Rattle.buffer.specs.Lines.{line_bytes}
 use Rattle.buffer.proofs.Fitting.{Fitted}

@@ -5,9 +5,6 @@ use mathlib.Core.List.{List, [], ◌∷◌}
 use Prim.Native.Nat.{ℕ, ◌+◌, ◌≤◌}
 use native.Mathlib.Omega.{arith}
 use lib.IntN.{ℤ, pos}
-use mir.Syntax.{w64}
-use mir.Val.{SFits}
-use borrow.Author.Rules.{rules}
 use Rattle.algebra.specs.Order.{◌⩽◌, ◌⋖◌}
 use Rattle.algebra.proofs.Reify.{reify}
 use Rattle.algebra.proofs.Order.{pos_mono}

@@ -1,6 +1,5 @@
 -- `text::refuse` meets its contract: 6, or the number that it is given.
 use native.Mathlib.Omega.{arith}
-use borrow.Author.Rules.{rules}
 use Rattle.word.proofs.Fits.{back}
 use Rattle.text.specs.Answer.{refused_reply}
 use Rattle.text.specs.Code.{Replied}

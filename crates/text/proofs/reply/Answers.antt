@@ -1,12 +1,9 @@
 -- `text::reply` meets its contract: 6, then 5, then the operation's own.
 use mathlib.Core.Path.{◌≡◌}
 use native.Mathlib.Omega.{arith}
-use lib.IntN.{ℤ}
 use mir.Syntax.{w64}
 use mir.Val.{SFits}
-use borrow.Author.Rules.{rules}
 use Rattle.word.proofs.Fits.{back, sfits_mag}
-use Rattle.point.specs.declared.Point.{Point}
 use Rattle.exponential.specs.Answer.{exp_answer}
 use Rattle.logarithm.specs.Answer.{log_answer}
 use Rattle.text.specs.declared.Line.TheVariants.{Exp, Log}

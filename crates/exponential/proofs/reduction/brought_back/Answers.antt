@@ -4,7 +4,6 @@ use Prim.Native.Nat.{ℕ, ◌%◌}
 use lib.IntN.{ℤ, pos, ◌+ℤ◌}
 use mir.Syntax.{w64}
 use mir.Val.{SFits}
-use borrow.Author.Rules.{rules}
 use Rattle.algebra.specs.Gauss.{gi, ◌*ᵍ◌}
 use Rattle.algebra.specs.Rounding.{nearest}
 use Rattle.algebra.proofs.Parts.{parts_weaken}

@@ -1,5 +1,5 @@
 -- `exponential::reduction::factor` meets its contract: in each arm p modulo 8 is known, and the list has there what the arm answers.
-use mathlib.Core.Path.{◌≡◌, sym, ap}
+use mathlib.Core.Path.{◌≡◌}
 use Prim.Native.Nat.{ℕ, ◌%◌}
 use native.Mathlib.Nat.{mod-lt}
 use native.Mathlib.Omega.{arith}
@@ -9,7 +9,6 @@ use Rattle.algebra.specs.Gauss.{𝔾}
 use Rattle.point.specs.Point.{nought}
 use Rattle.table_numbers.proofs.Match.{Rests, past}
 use Rattle.exponential.specs.Reduction.{eight}
-use Rattle.exponential.proofs.reduction.factor.Goals as goal
 
 abbrev at : ℕ → 𝔾
 at i = get_or eight i nought

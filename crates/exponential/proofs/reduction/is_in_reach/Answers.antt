@@ -1,7 +1,6 @@
 -- `exponential::reduction::is_in_reach` meets its contract: what lies in the rectangle lies within reach.
 use mathlib.Core.Path.{sym, ◌∙◌}
 use native.Mathlib.Omega.{arith}
-use borrow.Author.Rules.{rules}
 use Rattle.point.specs.Point.{gauss}
 use Rattle.exponential.specs.Reduction.{in_reach}
 use Rattle.exponential.proofs.Given.{rectangle_reaches}

@@ -1,5 +1,4 @@
 -- `exponential::reduction::is_near` meets its contract.
-use borrow.Author.Rules.{rules}
 use Rattle.exponential.specs.Reduction.{in_rectangle}
 use Rattle.exponential.proofs.reduction.is_near.Goals as goal
 

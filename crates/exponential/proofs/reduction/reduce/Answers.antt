@@ -1,7 +1,6 @@
 -- `exponential::reduction::reduce` meets its contract.
 use mathlib.Core.Path.{sym, ◌∙◌, ap}
 use mathlib.Core.Bool.{cond}
-use borrow.Author.Rules.{rules}
 use Rattle.point.specs.Point.{gauss}
 use Rattle.table_numbers.specs.Numbers48.{constants48}
 use Rattle.exponential.specs.Reduction.{reduced, unreduced, reduction}

@@ -6,7 +6,6 @@ use lib.IntN.{ℤ}
 use lib.Signed.{shr_z}
 use mir.Syntax.{w64}
 use mir.Val.{SFits, to_z, of_z}
-use borrow.Author.Rules.{rules}
 use Rattle.algebra.specs.Gauss.{𝔾, ◌*ᵍ◌, negᵍ, two}
 use Rattle.algebra.specs.Size.{Parts}
 use Rattle.algebra.specs.Rounding.{floorᵍ}

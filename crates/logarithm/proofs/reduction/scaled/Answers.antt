@@ -1,7 +1,6 @@
 -- `logarithm::reduction::scaled` meets its contract.
 use native.Mathlib.Omega.{arith}
 use lib.Dec.{lit≤}
-use borrow.Author.Rules.{rules}
 use Rattle.word.proofs.Fits.{back}
 use Rattle.word.proofs.Shift.{shift_left}
 use Rattle.logarithm.proofs.Fits.{scale_up, scale_down, scale_length}

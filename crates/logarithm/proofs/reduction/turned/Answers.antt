@@ -1,7 +1,6 @@
 -- `logarithm::reduction::turned` meets its contract: it makes the tests of the definition, one after the other.
 use mathlib.Core.Path.{◌≡◌, refl, sym, ◌∙◌, ap}
 use mathlib.Core.Bool.{false}
-use borrow.Author.Rules.{rules}
 use Rattle.word.proofs.Fits.{back, sfits_mag}
 use Rattle.point.specs.Point.{gauss, point}
 use Rattle.logarithm.specs.Reduction.{in_cone, turn_back, turns_back, spelling}

@@ -1,6 +1,5 @@
 -- `logarithm::reduction::turned_back` meets its contract.
 use mathlib.Core.Path.{◌∙◌, ap}
-use borrow.Author.Rules.{rules}
 use Rattle.algebra.specs.Gauss.{iᵍ, conj, ◌*ᵍ◌}
 use Rattle.point.specs.Point.{gauss, point}
 use Rattle.logarithm.proofs.Quadrant.{turn_back_is}
