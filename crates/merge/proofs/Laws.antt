@@ -18,7 +18,7 @@ use Rattle.scan.specs.Fields.{same_bytes}
 use Rattle.scan.proofs.Fields.{same_self}
 use Rattle.stream.specs.Machine.{last_line, lines_from, lines}
 use Rattle.merge.specs.declared.Choice.{Choice}
-use Rattle.merge.specs.Merge.{choice, Merge, stopped, ◌then◌, act, follow, merge_from, merge}
+use Rattle.merge.specs.Merge.{choice, Merge, ◌then◌, act, follow, merge_from, merge}
 use Rattle.merge.specs.Call.{text}
 use Rattle.merge.proofs.Rules.{Numbered, one_number, front_risen, BySerial, below, above, twins, differ, by_serial_lem, Stops, no_stop, Under, Merges, none, stop, first, second, passed, merges}
 

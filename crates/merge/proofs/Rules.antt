@@ -6,7 +6,7 @@ use mathlib.Core.List.{List, [], ◌∷◌}
 use Prim.Native.Nat.{ℕ}
 use native.Mathlib.Omega.{arith}
 use lib.IntN.{ℤ, pos}
-use lib.Signed.{le_z, lt_z}
+use lib.Signed.{lt_z}
 use Rattle.algebra.specs.Order.{◌⩽◌, ◌⋖◌}
 use Rattle.algebra.proofs.Test.{either}
 use Rattle.algebra.proofs.Order.{⩽_antisym, lt_of_suc_le, tested, tested<}

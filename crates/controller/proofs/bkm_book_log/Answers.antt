@@ -1,5 +1,4 @@
 -- `controller::bkm_book_log` meets its contract.
-use borrow.Author.Rules.{rules}
 use Rattle.word.proofs.Fits.{back}
 use Rattle.controller.proofs.Call.{booked}
 use Rattle.controller.proofs.bkm_book_log.Goals as goal

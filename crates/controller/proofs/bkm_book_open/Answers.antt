@@ -1,5 +1,4 @@
 -- `controller::bkm_book_open` meets its contract, which is that of the call.
-use borrow.Author.Rules.{rules}
 use Rattle.word.proofs.Fits.{back}
 use Rattle.controller.proofs.bkm_book_open.Goals as goal
 

@@ -1,5 +1,4 @@
 -- `controller::bkm_log` meets its contract.
-use borrow.Author.Rules.{rules}
 use Rattle.word.proofs.Fits.{back}
 use Rattle.controller.proofs.Call.{called}
 use Rattle.controller.proofs.bkm_log.Goals as goal

@@ -1,5 +1,4 @@
 -- `controller::bkm_log_doubles` meets its contract: both clauses are those of the call.
-use borrow.Author.Rules.{rules}
 use Rattle.word.proofs.Fits.{back}
 use Rattle.controller.proofs.Call.{called_doubles}
 use Rattle.controller.proofs.bkm_log_doubles.Goals as goal

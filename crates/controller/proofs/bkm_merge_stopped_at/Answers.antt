@@ -1,5 +1,4 @@
 -- `controller::bkm_merge_stopped_at` meets its contract, which is that of the call.
-use borrow.Author.Rules.{rules}
 use Rattle.controller.proofs.bkm_merge_stopped_at.Goals as goal
 
 pub returns : goal.returns

@@ -1,5 +1,4 @@
 -- `controller::bkm_read_doubles` meets its contract, which is that of the call.
-use borrow.Author.Rules.{rules}
 use Rattle.controller.proofs.bkm_read_doubles.Goals as goal
 
 pub returns : goal.returns

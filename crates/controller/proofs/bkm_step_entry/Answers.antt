@@ -1,7 +1,6 @@
 -- `controller::bkm_step_entry` meets its contract: the entry that the row has is the table's.
 use mathlib.Core.Path.{◌≡◌, refl, ◌∙◌, ap}
 use Prim.Native.Nat.{ℕ, zero, suc}
-use borrow.Author.Rules.{rules}
 use Rattle.algebra.specs.Gauss.{𝔾}
 use Rattle.word.proofs.Fits.{back, sfits_mag}
 use Rattle.table_numbers.specs.Table.{step_table}

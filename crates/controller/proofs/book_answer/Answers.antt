@@ -1,6 +1,5 @@
 -- `controller::book_answer` meets its contract.
 use mathlib.Core.Path.{refl}
-use borrow.Author.Rules.{rules}
 use Rattle.controller.proofs.book_answer.Goals as goal
 
 pub returns : goal.returns

@@ -3,7 +3,6 @@ use mathlib.Core.Path.{◌≡◌, sym, ◌∙◌}
 use mathlib.Core.Bool.{true, false}
 use lib.Signed.{lt_z}
 use Rattle.word.proofs.Fits.{back}
-use borrow.Author.Rules.{rules}
 use Rattle.merge.proofs.by_serial.Goals as goal
 use Rattle.merge.proofs.by_serial.Lts as lts
 use Rattle.merge.proofs.by_serial.Reads as reads

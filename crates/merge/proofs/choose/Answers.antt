@@ -1,7 +1,6 @@
 -- `merge::choose` meets its contract: case by case.
 use Rattle.word.proofs.Fits.{back, sfits_mag}
 use Rattle.merge.specs.Merge.{choice}
-use borrow.Author.Rules.{rules}
 use Rattle.merge.proofs.choose.Goals as goal
 
 pub returns-in-Malformed : goal.returns-in-Malformed

@@ -1,12 +1,12 @@
 -- `merge::decide` meets its contract: what is left to merge is refused as the whole is.
-use mathlib.Core.Path.{◌≡◌, refl, sym, ap, ◌∙◌}
+use mathlib.Core.Path.{refl, sym, ap, ◌∙◌}
 use native.Mathlib.Omega.{arith}
 use borrow.Author.Rules.{rules}
 use mir.Syntax.{w64}
 use mir.Val.{SFits}
 use Rattle.stream.specs.Machine.{lines}
 use Rattle.merge.specs.Merge.{Merge, merge}
-use Rattle.merge.proofs.Turn.{merge_rest, Left, rest, whole, held, behind_first, behind_second, done, refused, first, passed, second, first_less, passed_less, second_less}
+use Rattle.merge.proofs.Turn.{merge_rest, whole, held, behind_first, behind_second, done, refused, first, passed, second, first_less, passed_less, second_less}
 use Rattle.merge.proofs.decide.Goals as goal
 
 pub loop-r-init : goal.loop-r-init
@@ -31,8 +31,7 @@ loop-r-preserved-in-First c =
     let i = c.loop-r.invariant in
     let n = c.in-First.n in
     let r = c.step-r.result.now in
-    let fits : SFits w64 n = search rules in
-    (
+    let fits : SFits w64 n = search rules in (
       behind_first i.0 n r (held n (lines r) fits c.read_front-f-in-First.ensures),
       sym (ap (λ (m : Merge). m.refusal) (first i.0 c.choose-c.ensures c.in-First.is c.step-r.ensures)) ∙ i.1,
     )
@@ -45,8 +44,7 @@ loop-r-preserved-in-Passed c =
     let i = c.loop-r.invariant in
     let n = c.in-Passed.n in
     let r = c.step-r-in-Passed.result.now in
-    let fits : SFits w64 n = search rules in
-    (
+    let fits : SFits w64 n = search rules in (
       behind_first i.0 n r (held n (lines r) fits c.read_front-f-in-Passed.ensures),
       sym (ap (λ (m : Merge). m.refusal) (passed i.0 c.choose-c.ensures c.in-Passed.is c.step-r-in-Passed.ensures)) ∙ i.1,
     )
@@ -59,8 +57,7 @@ loop-r-preserved c =
     let i = c.loop-r.invariant in
     let n = c.in-Second.n in
     let r = c.step-r-in-Second.result.now in
-    let fits : SFits w64 n = search rules in
-    (
+    let fits : SFits w64 n = search rules in (
       behind_second i.0 n r (held n (lines r) fits c.read_front-g-in-Second.ensures),
       sym (ap (λ (m : Merge). m.refusal) (second i.0 c.choose-c.ensures c.in-Second.is c.step-r-in-Second.ensures)) ∙ i.1,
     )

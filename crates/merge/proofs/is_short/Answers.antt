@@ -4,7 +4,6 @@ use Prim.Native.Nat.{suc, ◌+◌, ◌-◌}
 use native.Mathlib.Omega.{arith}
 use borrow.Author.Tests.{lt-ltb}
 use Rattle.buffer.proofs.Either.{leb_same}
-use borrow.Author.Rules.{rules}
 use Rattle.merge.proofs.is_short.Goals as goal
 
 pub returns-then-room-a : goal.returns-then-room-a

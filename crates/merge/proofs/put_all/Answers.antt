@@ -6,7 +6,6 @@ use mathlib.Core.List.{[], ◌∷◌}
 use Rattle.buffer.proofs.Put.{nothing}
 use Rattle.buffer.proofs.Fitting.{fitted_put}
 use Rattle.merge.proofs.Follows.{text_none, text_newline, text_other}
-use borrow.Author.Rules.{rules}
 use Rattle.merge.proofs.put_all.Goals as goal
 
 pub returns-then-n-eq0 : goal.returns-then-n-eq0

@@ -1,7 +1,6 @@
 -- `merge::put_first` meets its contract.
 use mathlib.Core.Path.{sym}
 use Rattle.merge.proofs.Found.{first_is, first_length}
-use borrow.Author.Rules.{rules}
 use Rattle.merge.proofs.put_first.Goals as goal
 
 pub slice_bounds-put_line-end : goal.slice_bounds-put_line-end

@@ -3,10 +3,6 @@ use native.Mathlib.Omega.{arith}
 use Rattle.buffer.proofs.Put.{one, then, kept}
 use Rattle.buffer.specs.Code.{Put}
 use Rattle.buffer.proofs.Fitting.{fitted_put}
-use borrow.Author.Rules.{rules}
-use mathlib.Core.List.{List}
-use Prim.Native.Nat.{ℕ, ◌+◌, ◌≤◌}
-use lib.ListN.{length}
 use Rattle.merge.proofs.put_line.Goals as goal
 use Rattle.merge.proofs.put_line.Goals.{After-put_bytes-end}
 

@@ -7,7 +7,6 @@ use Rattle.text.specs.Line.{serial_of}
 use Rattle.stream.specs.Machine.{lines}
 use Rattle.merge.specs.Merge.{by_number, front_line, front}
 use Rattle.merge.proofs.Found.{first_length, front_none, front_is}
-use borrow.Author.Rules.{rules}
 use Rattle.merge.proofs.read_front.Goals as goal
 use Rattle.merge.proofs.read_front.Goals.{After-serial}
 

@@ -1,7 +1,6 @@
 -- `merge::rest` meets its contract.
 use native.Mathlib.Omega.{arith}
 use Rattle.merge.proofs.Found.{within, behind_newline, behind_last}
-use borrow.Author.Rules.{rules}
 use Rattle.merge.proofs.rest.Goals as goal
 
 pub slice_bounds-result-count-else-end-s : goal.slice_bounds-result-count-else-end-s

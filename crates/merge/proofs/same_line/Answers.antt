@@ -1,7 +1,6 @@
 -- `merge::same_line` meets its contract.
 use mathlib.Core.Path.{sym}
 use Rattle.merge.proofs.Found.{first_is, first_length}
-use borrow.Author.Rules.{rules}
 use Rattle.merge.proofs.same_line.Goals as goal
 
 pub slice_bounds-same_bytes-end : goal.slice_bounds-same_bytes-end

@@ -1,5 +1,4 @@
 -- `merge::step` meets its contract: the rest of the sheet that the choice reads from.
-use borrow.Author.Rules.{rules}
 use Rattle.merge.proofs.step.Goals as goal
 
 pub returns-in-First : goal.returns-in-First

@@ -7,7 +7,6 @@ use Rattle.merge.proofs.Found.{front_none}
 use Rattle.merge.specs.Merge.{front}
 use Rattle.merge.specs.Code.{Passes}
 use Rattle.merge.proofs.Sure.{Sure, sure, not_none, risen_as}
-use borrow.Author.Rules.{rules}
 use Rattle.merge.proofs.sure_front.Goals as goal
 use Rattle.merge.proofs.sure_front.Goals.{After-read_number}
 

@@ -1,5 +1,4 @@
 -- `merge_stop::name_line` meets its contract: case by case.
-use borrow.Author.Rules.{rules}
 use borrow.Author.Tests.{ne_eqb}
 use Rattle.merge_stop.specs.Stop.{named}
 use Rattle.merge_stop.proofs.name_line.Goals as goal

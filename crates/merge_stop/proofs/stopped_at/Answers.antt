@@ -1,15 +1,13 @@
 -- `merge_stop::stopped_at` meets its contract: what is left to merge stops as the whole does, and no more lines are counted than there are bytes.
-use mathlib.Core.Path.{◌≡◌, refl, sym, ◌∙◌}
-use Prim.Native.Nat.{◌+◌, ◌≤◌}
+use mathlib.Core.Path.{refl, sym, ◌∙◌}
 use native.Mathlib.Omega.{arith}
 use borrow.Author.Rules.{rules}
-use lib.ListN.{length}
 use mir.Syntax.{w64}
 use mir.Val.{SFits}
 use Rattle.word.proofs.Fits.{word_pos}
 use Rattle.stream.specs.Machine.{lines}
 use Rattle.merge_stop.specs.Stop.{stop}
-use Rattle.merge.proofs.Turn.{Left, whole, held, behind_first, behind_second, first_less, passed_less, second_less}
+use Rattle.merge.proofs.Turn.{whole, held, behind_first, behind_second, first_less, passed_less, second_less}
 use Rattle.merge_stop.proofs.Named.{stop_rest, by, first, passed, second, both}
 use Rattle.merge_stop.proofs.stopped_at.Goals as goal
 
@@ -42,8 +40,7 @@ loop-r-preserved-in-First c =
     let n = c.in-First.n in
     let r = c.step-r.result.now in
     let d = first_less l.0 c.choose-c.ensures c.in-First.is c.step-r.ensures in
-    let fits : SFits w64 n = search rules in
-    (
+    let fits : SFits w64 n = search rules in (
       behind_first l.0 n r (held n (lines r) fits c.read_front-f-in-First.ensures),
       (first _ _ l.0 c.choose-c.ensures c.in-First.is c.step-r.ensures ∙ l.1.0, (omega arith, omega arith)),
     )
@@ -60,8 +57,7 @@ loop-r-preserved-in-Passed c =
     let n = c.in-Passed.n in
     let r = c.step-r-in-Passed.result.now in
     let d = passed_less l.0 c.choose-c.ensures c.in-Passed.is c.step-r-in-Passed.ensures in
-    let fits : SFits w64 n = search rules in
-    (
+    let fits : SFits w64 n = search rules in (
       behind_first l.0 n r (held n (lines r) fits c.read_front-f-in-Passed.ensures),
       (passed _ _ l.0 c.choose-c.ensures c.in-Passed.is c.step-r-in-Passed.ensures ∙ l.1.0, (omega arith, omega arith)),
     )
@@ -78,8 +74,7 @@ loop-r-preserved c =
     let n = c.in-Second.n in
     let r = c.step-r-in-Second.result.now in
     let d = second_less l.0 c.choose-c.ensures c.in-Second.is c.step-r-in-Second.ensures in
-    let fits : SFits w64 n = search rules in
-    (
+    let fits : SFits w64 n = search rules in (
       behind_second l.0 n r (held n (lines r) fits c.read_front-g-in-Second.ensures),
       (second _ _ l.0 c.choose-c.ensures c.in-Second.is c.step-r-in-Second.ensures ∙ l.1.0, (omega arith, omega arith)),
     )
