@@ -1,7 +1,7 @@
 // Answers a sheet: standard input to standard output.
 #![tactic(auto)]
 
-ghost use Rattle.std.specs.Prelude.{◌≡◌, ◌≤◌, length, IfOk};
+ghost use Rattle.std.specs.Prelude.{◌≡◌, ◌≤◌, length, IfOk, OnErr};
 ghost use Rattle.text.specs.Answer.{answer_room};
 ghost use Rattle.stream.specs.Machine.{cut, place_after};
 ghost use Rattle.stream.specs.Sheet.{machine, place_of};
@@ -49,10 +49,12 @@ fn tell(rt: &(impl Eprint + Alloc), stream: &str, error: io::Error) {
     };
 }
 
-// Feeds all of a block and writes its answers, up to the first that cannot be written.
+// Feeds all of a block and writes its answers, up to the first that cannot be written. Its only error is that of a write, and then the buffer
+// keeps its length, and nothing more is known.
 fn answer_block(rt: &impl Print, place: Place, block: &[u8], out: &mut [u8]) -> io::Result<Place>
     requires { answer_room ≤ length out.old }
-    ensures { IfOk result (λ p. cut (place_of p) ≡ cut (place_after machine (place_of place) block.now)) }
+    ensures answered { IfOk result (λ p. cut (place_of p) ≡ cut (place_after machine (place_of place) block.now)) }
+    ensures unwritten { OnErr result (length out.new ≡ length out.old) }
 {
     let mut here = place;
     let mut at: usize = 0;
