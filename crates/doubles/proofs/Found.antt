@@ -27,6 +27,10 @@ neg_power k = refl
 pub written_number : (F : ℕ) (z : ℤ) → T (not (is_nan (double_of F z)))
 written_number F z = value_number (double_of F z) (is_negative z) (nat_abs z) (2 ^ F) (double_value F z)
 
+-- the same of what was written, so that the check finds it by itself wherever such a double's bits are read
+pub written_is_number : {d : Float} (F : ℕ) (z : ℤ) → d ≡ double_of F z → T (not (is_nan d))
+written_is_number F z e = rw e (written_number F z)
+
 -- x with the code's 2^F and 2^(F+1): the product and its two tests
 module _ (F : ℕ) {p q : Float} (narrow : F ≤ 52) (P : p ≡ power F) (Q : q ≡ power (suc F)) (x : Float) where
   pub outside_low : lt (neg q) (mul binary64 x p) ≡ false → is_units F x ≡ false

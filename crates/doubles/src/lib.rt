@@ -64,6 +64,7 @@ fn write_part(units: i64) -> f64
 
 // How many units x is. Of a whole number of units the product is exact, and its count written again has the bits of x; no other double has
 // those of the count that it is cut to.
+#[tactic(auto, using(crate::proofs::Found::written_is_number))]
 fn read_part(x: f64) -> Part
     ensures { result ≡ part_in 48 x }
 {

@@ -3,7 +3,7 @@ use Rattle.std.proofs.Common.{T, sym, subst, lit≤}
 use Rattle.word.proofs.Fits.{back, sfits_mag}
 use Rattle.doubles.specs.Code.{part_in}
 use Rattle.doubles.proofs.Tests.{product_number}
-use Rattle.doubles.proofs.Found.{two_48, two_49, passed, cut_small, written_number, read_whole, read_other, outside_low, outside_high}
+use Rattle.doubles.proofs.Found.{two_48, two_49, passed, cut_small, read_whole, read_other, outside_low, outside_high}
 use Rattle.doubles.proofs.read_part.Goals as goal
 
 pub returns-then-again-x : goal.returns-then-again-x
@@ -44,9 +44,6 @@ write_part-again-requires c =
     let k = c.truncating_f64_to_i64-units in
     rw (back (sfits_mag k.result k.type_inv))
     (cut_small 48 (lit≤ tt) two_48 two_49 t.before.before.args.x t.before.if-product.true t.if-product-2.true k.ensures)
-
-pub float_to_bits-again : goal.float_to_bits-again
-float_to_bits-again c = rw c.write_part-again.ensures (written_number 48 _)
 
 pub float_to_bits-x : goal.float_to_bits-x
 float_to_bits-x c =
