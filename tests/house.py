@@ -81,7 +81,7 @@ def words(text):
             continue
         for word in re.split(r"[\s(){},;⟦⟧«»]+", line):
             found.add(word)
-            found.update(word.split("."))
+            found.update(re.split(r"\.|::|\]", word))
     return found
 
 
