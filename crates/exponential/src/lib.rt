@@ -15,24 +15,12 @@ use point::Point;
 
 mod reduction;
 
-// The absolute value.
-fn size(x: i64) -> i64
-    requires { Size x (two 59) }
-    ensures { result ≡ abs x }
-{
-    if x < 0 { -x } else { x }
-}
-
 // The larger part in size.
 fn larger_part(p: Point) -> i64
     requires { Parts (gauss p) (two 59) }
     ensures { result ≡ larger (gauss p) }
 {
-    let x = p.x;
-    let y = p.y;
-    let a = size(x);
-    let b = size(y);
-    if b < a { a } else { b }
+    p.x.abs().max(p.y.abs())
 }
 
 // 8 M / 2^n rounded up, plus 2 n: M is the larger part in size of the start that the steps are given.
