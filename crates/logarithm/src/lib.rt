@@ -33,14 +33,9 @@ fn less_one(p: Point) -> Point
     requires { Parts (gauss p) (two 61) }
     ensures { result ≡ point (gauss p -ᵍ one 48) }
 {
-    let one = Point::ONE;
-    let one_x = one.x;
-    let one_y = one.y;
-    let x = p.x;
-    let y = p.y;
     Point {
-        x: x - one_x,
-        y: y - one_y,
+        x: p.x - Point::ONE.x,
+        y: p.y - Point::ONE.y,
     }
 }
 
@@ -85,7 +80,7 @@ pub fn log(n: i64, p: Point) -> Result<Figures, Refusal>
     if !p.is_in_parts() {
         return Err(Refusal::Part);
     }
-    if p.is_in_box(0, 0, 0, 0) {
+    if p == Point::ZERO {
         return Err(Refusal::Zero);
     }
     Ok(accepted(n as usize, p))
