@@ -10,7 +10,7 @@ ghost use Rattle.logarithm.specs.Answer.{log_answer, Close};
 ghost use Rattle.logarithm.specs.Code.{BoundPre, bound_at, figures_of, Accepted};
 
 use answer::{Figures, Refusal};
-use iteration::Mode;
+use iteration::Log;
 use point::Point;
 
 mod reduction;
@@ -51,7 +51,7 @@ fn accepted(n: usize, p: Point) -> Figures
     let quadrant = t.quadrant;
     let m = w.x;
     let b = reduction::bit_length(m);
-    let s = iteration::run(Mode::Log, 2, n, reduction::begun(w, b));
+    let s = iteration::run::<Log>(2, n, reduction::begun(w, b));
     let sum = s.sum;
     let last = s.point;
     // part by part, so that nothing is copied in between
