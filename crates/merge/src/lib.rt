@@ -9,8 +9,6 @@ ghost use Rattle.merge.specs.Merge.{front, by_serial, choice, merge};
 ghost use Rattle.merge.specs.Code.{InFrontIfPassing};
 ghost use Rattle.merge.specs.Call.{first_line, behind, unread, text, refusal_for, bytes_for};
 
-use scan::Number;
-
 // The line in front of what is left of a sheet, behind a line that was read.
 #[derive(Clone, Copy)]
 pub enum Front {
@@ -56,7 +54,7 @@ pub fn read_front(s: &[u8], last: i64) -> Front
     }
     let end = scan::find_byte(s, 0, 10);
     let line = text::read_line(&s[..end]);
-    let Number::Is(serial) = line.serial() else {
+    let Some(serial) = line.serial() else {
         return Front::Malformed;
     };
     if serial <= last {
@@ -221,8 +219,8 @@ fn sure_front(s: &[u8]) -> Front
     }
     let tab = scan::find_byte(s, 0, 9);
     match scan::read_number(s, 0, tab) {
-        Number::Is(serial) => Front::Risen(serial),
-        Number::Not => Front::Malformed,
+        Some(serial) => Front::Risen(serial),
+        None => Front::Malformed,
     }
 }
 

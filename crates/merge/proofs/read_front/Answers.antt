@@ -28,14 +28,14 @@ returns-in_default c = rw (is_read (goal.at.returns-in_default c).After-serial, 
 
 pub returns : goal.returns
 returns c =
-    let k = c.in-Is in
+    let k = c.in-Some in
     let f = sfits_mag k.serial k.known_told-1-own.given.0.1 in
     let high : le_z k.serial c.args.last ≡ false = rw (back f, back c.ranges.last) at c.if-serial-last.false in
     rw (is_read (goal.at.returns c).After-serial, k.is, high, back f)
 
 pub returns-then-serial-last : goal.returns-then-serial-last
 returns-then-serial-last c =
-    let k = c.in-Is in
+    let k = c.in-Some in
     let f = sfits_mag k.serial k.known_told-1-own.given.0.1 in
     let low : le_z k.serial c.args.last ≡ true = rw (back f, back c.ranges.last) at c.if-serial-last.true in
     rw (is_read (goal.at.returns-then-serial-last c).After-serial, k.is, low)

@@ -19,11 +19,11 @@ sure_here c last h =
 pub returns-then-s-eq0 : goal.returns-then-s-eq0
 returns-then-s-eq0 c = λ last h. let s = c.args in sym (front_none last s.s.now c.if-s-eq0.true)
 
-pub returns-in-Is : goal.returns-in-Is
-returns-in-Is c = λ last h.
-    let k = c.in-Is in
-    let is = risen_as (sure_here (goal.at.returns-in-Is c).After-read_number last h) k.is in
+pub returns-in-Some : goal.returns-in-Some
+returns-in-Some c = λ last h.
+    let k = c.in-Some in
+    let is = risen_as (sure_here (goal.at.returns-in-Some c).After-read_number last h) k.is in
     rw (back (sfits_mag k.serial k.known_told-1-own.given.0.1)) (sym is)
 
-pub returns-in-Not : goal.returns-in-Not
-returns-in-Not c = λ last h. not_none (sure_here (goal.at.returns-in-Not c).After-read_number last h) c.in-Not.is
+pub returns-in-None : goal.returns-in-None
+returns-in-None c = λ last h. not_none (sure_here (goal.at.returns-in-None c).After-read_number last h) c.in-None.is
