@@ -2,6 +2,7 @@
 use mathlib.Core.Path.{◌≡◌, refl, ap}
 use mathlib.Core.Bool.{Bool}
 use mathlib.Core.List.{List, [], ◌∷◌}
+use mathlib.Core.Logic.{◌⊎◌, inl, inr}
 use Prim.Native.Nat.{ℕ, suc, ◌<◌}
 use native.Mathlib.Omega.{arith}
 use lib.IntN.{ℤ, pos}
@@ -15,8 +16,9 @@ use Rattle.stream.specs.Machine.{lines, lines_from, last_line}
 use Rattle.stream.proofs.Lines.{no_line, some_line}
 use Rattle.merge.specs.declared.Front.{Front}
 use Rattle.merge.specs.declared.Choice.{Choice}
-use Rattle.merge.specs.Merge.{front_line, front, choice, Merge, stopped, ◌then◌, act, alone, follow, merge_from}
-use Rattle.merge.specs.Call.{first_line, behind}
+use Rattle.merge.specs.declared.MergeError.{MergeError}
+use Rattle.merge.specs.Merge.{refusal_number, front_line, front, choice, Merge, stopped, ◌then◌, act, alone, follow, merge_from}
+use Rattle.merge.specs.Call.{first_line, behind, unread}
 use Rattle.merge.specs.declared.Front.TheVariants.{End, Malformed, Fallen, Risen}
 use Rattle.merge.specs.declared.Choice.TheVariants.{Done, First, Passed, Second, Refused}
 
@@ -159,8 +161,12 @@ module _ {s t : List ℕ} {f g : Front} (l : Left s t f g) where
     pub done : c ≡ Done → rest l ≡ stopped 0
     done d = by d
 
-    pub refused : {r : ℕ} → c ≡ Refused r → rest l ≡ stopped r
+    pub refused : {r : MergeError} → c ≡ Refused r → rest l ≡ stopped (refusal_number r)
     refused d = by d
+
+    pub ended : (c ≡ Done) ⊎ ((r : MergeError) × (c ≡ Refused r)) → (r : ℕ) × (rest l ≡ stopped r)
+    ended (inl d) = (0, done d)
+    ended (inr d) = (refusal_number d.0, refused d.1)
 
     pub first : {n : ℤ} {r : List ℕ} → c ≡ First n → r ≡ behind s → rest l ≡ first_line s then merge_rest n l.k r t
     first d p = rw p (by d)
@@ -182,3 +188,22 @@ module _ {s t : List ℕ} {f g : Front} (l : Left s t f g) where
 
     pub second_less : {n : ℤ} {r : List ℕ} → c ≡ Second n → r ≡ behind t → length r < length t
     second_less d p = rw p (less t (some_bytes t (reads d)))
+
+    -- the first sheet's line, written or passed by
+    pub read_first : {n : ℤ} {r : List ℕ} → (c ≡ First n) ⊎ (c ≡ Passed n) → r ≡ unread c s t → r ≡ behind s
+    read_first (inl d) p = rw d at p
+    read_first (inr d) p = rw d at p
+
+    pub read_second : {n : ℤ} {r : List ℕ} → c ≡ Second n → r ≡ unread c s t → r ≡ behind t
+    read_second d p = rw d at p
+
+    pub first_refusal : {n : ℤ} {r : List ℕ} → (c ≡ First n) ⊎ (c ≡ Passed n) → r ≡ unread c s t → (rest l).refusal ≡ (merge_rest n l.k r t).refusal
+    first_refusal (inl d) p = ap (λ (m : Merge). m.refusal) (first d (read_first (inl d) p))
+    first_refusal (inr d) p = ap (λ (m : Merge). m.refusal) (passed d (read_first (inr d) p))
+
+    pub second_refusal : {n : ℤ} {r : List ℕ} → c ≡ Second n → r ≡ unread c s t → (rest l).refusal ≡ (merge_rest l.j n s r).refusal
+    second_refusal d p = ap (λ (m : Merge). m.refusal) (second d (read_second d p))
+
+    pub either_less : {n : ℤ} {r : List ℕ} → (c ≡ First n) ⊎ (c ≡ Passed n) → r ≡ unread c s t → length r < length s
+    either_less (inl d) p = first_less d (read_first (inl d) p)
+    either_less (inr d) p = passed_less d (read_first (inr d) p)
