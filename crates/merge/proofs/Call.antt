@@ -3,16 +3,12 @@ use mathlib.Core.Path.{◌≡◌}
 use mathlib.Core.Bool.{false}
 use mathlib.Core.List.{List, ◌++◌}
 use mathlib.Core.Logic.{◌⊎◌, inl, inr}
-use Prim.Native.Nat.{ℕ, ◌+◌, ◌≤◌, ◌<◌, ◌^◌}
+use Prim.Native.Nat.{ℕ, ◌+◌, ◌≤◌}
 use native.Mathlib.Omega.{arith}
-use lib.IntN.{pos}
 use lib.ListN.{length, drop}
-use mir.Syntax.{w64}
-use mir.Val.{to_z}
 use lib.Dec.{eqb, ltb}
-use borrow.Author.Tests.{lt-ltb, le-ltb, ltb-false, ne_eqb}
+use borrow.Author.Tests.{ltb-false}
 use Rattle.algebra.proofs.Test.{either}
-use Rattle.word.proofs.Fits.{word_pos}
 use Rattle.buffer.specs.Code.{Put}
 use Rattle.buffer.proofs.Put.{to_front}
 use Rattle.merge.specs.Merge.{merge}

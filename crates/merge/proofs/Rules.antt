@@ -1,4 +1,5 @@
 -- The merge as rules: what a choice tells of the two lines in front, and the lines that a merge takes one after the other.
+use Rattle.std.specs.Prelude.{Option, Some, None}
 use mathlib.Core.Path.{◌≡◌, refl, sym, ap, ◌∙◌}
 use mathlib.Core.Bool.{Bool, true, false, cond}
 use mathlib.Core.Logic.{◌⊎◌, inl, inr}
@@ -11,27 +12,25 @@ use Rattle.algebra.specs.Order.{◌⩽◌, ◌⋖◌}
 use Rattle.algebra.proofs.Test.{either}
 use Rattle.algebra.proofs.Order.{⩽_antisym, lt_of_suc_le, tested, tested<}
 use Rattle.word.proofs.Compare.{lt_le_z}
-use Rattle.scan.specs.declared.Number.{Number}
 use Rattle.scan.specs.Fields.{same_bytes}
 use Rattle.scan.proofs.Fields.{same_list}
 use Rattle.text.specs.Line.{read_line, serial_of}
 use Rattle.merge.specs.declared.Front.{Front}
 use Rattle.merge.specs.declared.Choice.{Choice}
 use Rattle.merge.specs.Merge.{refusal_number, by_number, front_line, by_serial, choice, Merge, stopped, ◌then◌, act, alone, follow, merge_from}
-use Rattle.scan.specs.declared.Number.TheVariants as num
 use Rattle.merge.specs.declared.Front.TheVariants.{Malformed, Fallen, Risen}
 use Rattle.merge.specs.declared.Choice.TheVariants.{Done, First, Passed, Second, Refused}
 use Rattle.merge.specs.declared.MergeError.TheVariants as err
 
 -- ---- a line and its serial
 pub record Numbered (l : List ℕ) (n : ℤ) : Type 0 where
-  pub is : serial_of (read_line l) ≡ num.Is n
+  pub is : serial_of (read_line l) ≡ Some n
 
-abbrev number : Number → ℤ
-number num.Not = pos 0
-number (num.Is n) = n
+abbrev number : Option ℤ → ℤ
+number None = pos 0
+number (Some n) = n
 
-pub number_is : {m n : ℤ} → num.Is m ≡ num.Is n → m ≡ n
+pub number_is : {m n : ℤ} → Some m ≡ Some n → m ≡ n
 number_is e = ap number e
 
 pub one_number : {l : List ℕ} {m n : ℤ} → Numbered l m → Numbered l n → m ≡ n
@@ -39,7 +38,7 @@ one_number e f = number_is (sym e.is ∙ f.is)
 
 -- ---- the line in front, behind one with the serial `last`
 pub data InFront (last : ℤ) (l : List ℕ) : Front → Type 0 where
-  malformed : serial_of (read_line l) ≡ num.Not → InFront last l Malformed
+  malformed : serial_of (read_line l) ≡ None → InFront last l Malformed
   fallen : {n : ℤ} → Numbered l n → n ⩽ last → InFront last l Fallen
   risen : {n : ℤ} → Numbered l n → last ⋖ n → InFront last l (Risen n)
 
@@ -47,9 +46,9 @@ pub in_front_lem : (last : ℤ) (l : List ℕ) → InFront last l (front_line la
 unfolding front_line
 in_front_lem last l = go (serial_of (read_line l)) refl
   where
-    go : (r : Number) → serial_of (read_line l) ≡ r → InFront last l (by_number last r)
-    go num.Not e = malformed e
-    go (num.Is n) e =
+    go : (r : Option ℤ) → serial_of (read_line l) ≡ r → InFront last l (by_number last r)
+    go None e = malformed e
+    go (Some n) e =
         tested (λ t. InFront last l (cond t Fallen (Risen n))) n last (λ h. fallen (record { is = e }) h)
         (λ h. risen (record { is = e }) (lt_of_suc_le h))
 

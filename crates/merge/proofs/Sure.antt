@@ -1,12 +1,12 @@
 -- A line that does not stop a merge: its serial stands before the first tab of the sheet.
-use mathlib.Core.Path.{◌≡◌, refl, sym, ap, subst, ◌∙◌}
+use Rattle.std.specs.Prelude.{Option, Some}
+use mathlib.Core.Path.{◌≡◌, refl}
 use mathlib.Core.List.{List}
 use Prim.Native.Nat.{ℕ, ◌≤◌}
 use native.Mathlib.Omega.{arith}
 use lib.IntN.{ℤ}
 use lib.ListN.{length, take}
 use lib.Seq.{slice, take-take}
-use Rattle.scan.specs.declared.Number.{Number}
 use Rattle.scan.specs.Decimal.{read_number}
 use Rattle.scan.specs.Find.{before, find_byte}
 use Rattle.scan.proofs.Find.{ended, before_take}
@@ -15,11 +15,10 @@ use Rattle.stream.specs.Machine.{lines}
 use Rattle.merge.specs.declared.Front.{Front}
 use Rattle.merge.specs.Merge.{front}
 use Rattle.merge.specs.Code.{Passes}
-use Rattle.merge.proofs.Rules.{Numbered, number_is, InFront, malformed, fallen, risen, in_front_lem, front_risen, merges}
+use Rattle.merge.proofs.Rules.{Numbered, InFront, malformed, fallen, risen, in_front_lem, front_risen, merges}
 use Rattle.merge.proofs.Laws.{Rising, end, more, both_rose}
 use Rattle.merge.proofs.Turn.{merge_rest}
 use Rattle.merge.proofs.Found.{front_is, first_length}
-use Rattle.scan.specs.declared.Number.TheVariants as num
 use Rattle.merge.specs.declared.Front.TheVariants.{Risen}
 
 -- ---- where nothing stops the merge, neither line in front does
@@ -33,27 +32,16 @@ unfolding merge_rest
 both_pass j k s t e = let r = both_rose (merges j k (lines s) (lines t)) e in (rising_passes r.0, rising_passes r.1)
 
 -- ---- such a line's serial
-pub record Sure (last : ℤ) (s : List ℕ) (r : Number) : Type 0 where
+pub record Sure (last : ℤ) (s : List ℕ) (r : Option ℤ) : Type 0 where
   pub serial : ℤ
   pub is : front last (lines s) ≡ Risen serial
-  pub «read» : r ≡ num.Is serial
-
-module _ {last : ℤ} {s : List ℕ} {r : Number} (h : Sure last s r) where
-  pub not_none : {A : Type 0} → r ≡ num.Not → A
-  not_none e = absurd (subst None (sym e ∙ h.«read») tt)
-    where
-      None : Number → Type 0
-      None num.Not = Unit {0}
-      None (num.Is z) = ⊥
-
-  pub risen_as : {z : ℤ} → r ≡ num.Is z → front last (lines s) ≡ Risen z
-  risen_as e = h.is ∙ ap Risen (number_is (sym h.«read» ∙ e))
+  pub «read» : r ≡ Some serial
 
 module _ (s : List ℕ) (last : ℤ) (n : length s ≡ 0 → ⊥) where
   l : List ℕ
   l = take (find_byte 10 s 0) s
 
-  tab : {z : ℤ} → Numbered l z → (read_number (slice 0 (find_byte 9 s 0) s) ≡ num.Is z)
+  tab : {z : ℤ} → Numbered l z → (read_number (slice 0 (find_byte 9 s 0) s) ≡ Some z)
   unfolding l
   tab {z} e =
       let f = first_number l z (ended (omega arith) refl) e.is in

@@ -1,14 +1,12 @@
 -- The merge of two sheets by their lines, which come without their newlines (02, E4).
-use Rattle.std.specs.Prelude.{Bool, cond, List, [], ◌∷◌, ℕ, ℤ, pos}
+use Rattle.std.specs.Prelude.{Bool, cond, List, [], ◌∷◌, ℕ, ℤ, pos, Option, Some, None}
 use Rattle.std.specs.Int.Signed.{le_z, lt_z}
-use Rattle.scan.specs.declared.Number.{Number}
 use Rattle.scan.specs.Fields.{same_bytes}
 use Rattle.text.specs.Line.{read_line, serial_of}
 use Rattle.stream.specs.Machine.{lines}
 use Rattle.merge.specs.declared.Front.{Front}
 use Rattle.merge.specs.declared.Choice.{Choice}
 use Rattle.merge.specs.declared.MergeError.{MergeError}
-use Rattle.scan.specs.declared.Number.TheVariants as num
 use Rattle.merge.specs.declared.Front.TheVariants.{End, Malformed, Fallen, Risen}
 use Rattle.merge.specs.declared.Choice.TheVariants.{Done, First, Passed, Second, Refused}
 use Rattle.merge.specs.declared.MergeError.TheVariants as err
@@ -21,9 +19,9 @@ refusal_number err.Fallen = 7
 refusal_number err.Differing = 8
 
 -- ---- THE LINE IN FRONT of what is left of a sheet, behind a line with the serial `last`: malformed, of "a falling or repeated number", or neither
-abbrev pub by_number : ℤ → Number → Front
-by_number last num.Not = Malformed
-by_number last (num.Is serial) = cond (le_z serial last) Fallen (Risen serial)
+abbrev pub by_number : ℤ → Option ℤ → Front
+by_number last None = Malformed
+by_number last (Some serial) = cond (le_z serial last) Fallen (Risen serial)
 
 unfoldable pub front_line : ℤ → List ℕ → Front
 front_line last l = by_number last (serial_of (read_line l))

@@ -9,7 +9,6 @@ ghost use Rattle.merge.specs.Merge.{refusal_number, front, by_serial, choice, me
 ghost use Rattle.merge.specs.Code.{InFrontIfPassing};
 ghost use Rattle.merge.specs.Call.{first_line, behind, unread, text, refusal_for, bytes_for, refusal_of, count_of};
 
-use scan::Number;
 use std::cmp::Ordering;
 
 // Why a merge is refused, with its number for C.
@@ -71,26 +70,24 @@ pub enum Choice {
 pub fn read_front(s: &[u8], last: i64) -> Front
     ensures { result ≡ front last (lines s.now) }
 {
-    if s.len() == 0 {
+    if s.is_empty() {
         return Front::End;
     }
-    let end = scan::find_byte(s, 0, 10);
+    let end = scan::find_byte(s, 0, b'\n');
     let line = text::read_line(&s[..end]);
-    let Number::Is(serial) = line.serial() else {
-        return Front::Malformed;
-    };
-    if serial <= last {
-        return Front::Fallen;
+    match line.serial() {
+        None => Front::Malformed,
+        Some(serial) if serial <= last => Front::Fallen,
+        Some(serial) => Front::Risen(serial),
     }
-    Front::Risen(serial)
 }
 
 // Whether two sheets have the same bytes in front, up to the first newline.
 fn same_line(a: &[u8], b: &[u8]) -> bool
     ensures { result ≡ same_bytes (first_line a.now) (first_line b.now) }
 {
-    let e = scan::find_byte(a, 0, 10);
-    let f = scan::find_byte(b, 0, 10);
+    let e = scan::find_byte(a, 0, b'\n');
+    let f = scan::find_byte(b, 0, b'\n');
     scan::same_bytes(a, 0, e, &b[..f])
 }
 
@@ -125,7 +122,7 @@ pub fn choose(a: &[u8], b: &[u8], f: Front, g: Front) -> Choice
 fn rest(s: &[u8]) -> &[u8]
     ensures { result.now ≡ behind s.now }
 {
-    let end = scan::find_byte(s, 0, 10);
+    let end = scan::find_byte(s, 0, b'\n');
     &s[(end + 1).min(s.len())..]
 }
 
@@ -175,7 +172,7 @@ fn put_line(line: &[u8], out: &mut [u8], at: usize) -> usize
     ensures { Put out.old at (line.now ++ 10 ∷ []) out.new result }
 {
     let end = buffer::put_bytes(line, out, at);
-    out[end] = 10;
+    out[end] = b'\n';
     end + 1
 }
 
@@ -184,7 +181,7 @@ fn put_first(s: &[u8], out: &mut [u8], at: usize) -> usize
     requires { at + length (first_line s.now) + 1 ≤ length out.old }
     ensures { Put out.old at (first_line s.now ++ 10 ∷ []) out.new result }
 {
-    let end = scan::find_byte(s, 0, 10);
+    let end = scan::find_byte(s, 0, b'\n');
     put_line(&s[..end], out, at)
 }
 
@@ -195,7 +192,7 @@ fn put_all(s: &[u8], out: &mut [u8], at: usize) -> usize
 {
     match s {
         [] => at,
-        [.., 10] => buffer::put_bytes(s, out, at),
+        [.., b'\n'] => buffer::put_bytes(s, out, at),
         _ => put_line(s, out, at),
     }
 }
@@ -204,14 +201,11 @@ fn put_all(s: &[u8], out: &mut [u8], at: usize) -> usize
 fn sure_front(s: &[u8]) -> Front
     ensures { InFrontIfPassing s.now result }
 {
-    if s.len() == 0 {
+    if s.is_empty() {
         return Front::End;
     }
-    let tab = scan::find_byte(s, 0, 9);
-    match scan::read_number(s, 0, tab) {
-        Number::Is(serial) => Front::Risen(serial),
-        Number::Not => Front::Malformed,
-    }
+    let tab = scan::find_byte(s, 0, b'\t');
+    scan::read_number(s, 0, tab).map_or(Front::Malformed, Front::Risen)
 }
 
 // What a merge copies that nothing stops; back comes how many bytes it is.

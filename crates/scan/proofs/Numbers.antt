@@ -1,8 +1,6 @@
 -- The reader's way through fields that are numbers: those that are read, behind them those to read.
-use Rattle.std.proofs.Common.{◌≡◌, ℕ, suc, ◌+◌, ◌<◌, ◌≤◌, Bool, true, false, cond, List, [], ◌∷◌, ◌++◌, length, take, drop, set, ℤ, pos, sym, refl, ap, ◌∙◌, append-nil, add-one, arith, drop_of_length-le, take_all, drop-cons, take-suc-set, drop-set-lt}
+use Rattle.std.proofs.Common.{◌≡◌, ℕ, suc, ◌+◌, ◌<◌, ◌≤◌, Bool, true, false, cond, List, [], ◌∷◌, ◌++◌, length, take, drop, set, ℤ, pos, sym, refl, ap, ◌∙◌, append-nil, add-one, arith, drop_of_length-le, take_all, drop-cons, take-suc-set, drop-set-lt, Option, Some, None}
 use lib.Seq.{slice, split_at, append_snoc}
-use Rattle.scan.specs.declared.Number.{Number}
-use Rattle.scan.specs.declared.Number.TheVariants as num
 use Rattle.scan.specs.Decimal.{read_number}
 use Rattle.scan.specs.Fields.{fields_at}
 use Rattle.scan.specs.Numbers.{Numbers, are, none, in_front, numbers, are_there, put_first, stored}
@@ -10,11 +8,11 @@ use Rattle.scan.proofs.Find.{Ended}
 use Rattle.scan.proofs.Fields.{no_field, first_field, some_field}
 
 -- ---- numbers that are there stand where they are stored
-one_more : (n : Number) (old rest : List ℤ) (ns : Numbers) → ns ≡ cond (are_there ns) (are rest) none →
+one_more : (n : Option ℤ) (old rest : List ℤ) (ns : Numbers) → ns ≡ cond (are_there ns) (are rest) none →
     in_front n ns ≡ cond (are_there (in_front n ns)) (are (put_first n old rest)) none
-one_more num.Not old rest ns e = refl
-one_more (num.Is z) old rest none e = refl
-one_more (num.Is z) old rest (are zs) e = cc
+one_more None old rest ns e = refl
+one_more (Some z) old rest none e = refl
+one_more (Some z) old rest (are zs) e = cc
 
 numbers_stored : (into : List ℤ) (fs : List (List ℕ)) →
     numbers (length into) fs ≡ cond (are_there (numbers (length into) fs)) (are (stored into fs)) none
@@ -39,7 +37,7 @@ pub comes : (into : List ℤ) (fs : List (List ℕ)) {o : Bool × List ℤ} {r :
 unfolding outcome
 comes into fs h e = let p = sym e ∙ h in (ap (λ p. p.0) p, ap (λ p. p.1) p)
 
-there_front : (z : ℤ) (ns : Numbers) → are_there (in_front (num.Is z) ns) ≡ are_there ns
+there_front : (z : ℤ) (ns : Numbers) → are_there (in_front (Some z) ns) ≡ are_there ns
 there_front z none = refl
 there_front z (are zs) = refl
 
@@ -51,12 +49,12 @@ module _ (l : List ℕ) (into : List ℤ) (i next : ℕ) where
     field_missing k = rw (no_field l next k, drop-cons into i (pos 0) h) (ap (λ t. (false, t)) (sym (split_at into i (pos 0) h)))
 
     module _ (k : next ≤ length l) (e : ℕ) (f : Ended 9 l next e) where
-      pub not_number : read_number (slice next e l) ≡ num.Not → outcome into i (fields_at l next) ≡ (false, into)
+      pub not_number : read_number (slice next e l) ≡ None → outcome into i (fields_at l next) ≡ (false, into)
       unfolding outcome numbers stored
       not_number n = rw (first_field k f, drop-cons into i (pos 0) h, n) (ap (λ t. (false, t)) (sym (split_at into i (pos 0) h)))
 
       -- the number goes to its place
-      pub number_stored : (z : ℤ) → read_number (slice next e l) ≡ num.Is z →
+      pub number_stored : (z : ℤ) → read_number (slice next e l) ≡ Some z →
           outcome into i (fields_at l next) ≡ outcome (set into i z) (i + 1) (fields_at l (e + 1))
       unfolding outcome numbers stored
       number_stored z n =

@@ -1,19 +1,16 @@
 -- The reader and the writer are laws of each other: what is written is read as the same number, and what is read as a number is that
 -- number written.
-use Rattle.std.proofs.Common.{◌≡◌, ℕ, zero, suc, ◌+◌, ◌-◌, ◌*◌, ◌/◌, ◌%◌, ◌^◌, ◌<◌, ◌≤◌, cond, eqb, ltb, leb, ◌⊎◌, List, [], ◌∷◌, ◌++◌, length, ℤ, pos, negsuc, sym, refl, ap, ◌∙◌, inl, inr, append_assoc, append-nil, mod-lt, div-add-mod', arith, lit<, w64, SFits, ltb-false, le-ltb, lt-ltb, ne_eqb, eqb-true, le-leb, leb-true}
+use Rattle.std.proofs.Common.{◌≡◌, ℕ, zero, suc, ◌+◌, ◌-◌, ◌*◌, ◌/◌, ◌%◌, ◌^◌, ◌<◌, ◌≤◌, cond, eqb, ltb, leb, ◌⊎◌, List, [], ◌∷◌, ◌++◌, length, ℤ, pos, negsuc, sym, refl, ap, ◌∙◌, inl, inr, append_assoc, append-nil, mod-lt, div-add-mod', arith, lit<, w64, SFits, ltb-false, le-ltb, lt-ltb, ne_eqb, eqb-true, le-leb, leb-true, Option, Some, None}
 use borrow.Author.Tests.{eqb-false}
 use Rattle.algebra.proofs.Test.{either}
 use Rattle.buffer.specs.Decimal.{show_natural, show_number}
 use Rattle.buffer.proofs.Written.{digits_ind, digits_one, digits_more, small_or, short, short_number}
-use Rattle.scan.specs.declared.Natural.{Natural}
 use Rattle.scan.specs.Decimal.{value, up_to, read_natural, read_number, plus, minus}
-use Rattle.scan.specs.declared.Natural.TheVariants as nat
-use Rattle.scan.specs.declared.Number.TheVariants as num
 
 -- ---- what is written is read
-behind : Natural → List ℕ → Natural
-behind nat.Not l = nat.Not
-behind (nat.Is a) l = value a l
+behind : Option ℕ → List ℕ → Option ℕ
+behind None l = None
+behind (Some a) l = value a l
 
 value_append : (xs ys : List ℕ) (a : ℕ) → value a (xs ++ ys) ≡ behind (value a xs) ys
 unfolding value behind
@@ -22,7 +19,7 @@ value_append (d ∷ xs) ys a =
     let more = value_append xs ys (a * 10 + (d - 48)) in
     either (ltb d 48) (λ e. rw e) (λ e. rw e (either (ltb 57 d) (λ f. rw f) (λ f. rw f more)))
 
-value_one : (a x : ℕ) → x < 10 → value a ((48 + x) ∷ []) ≡ nat.Is (a * 10 + x)
+value_one : (a x : ℕ) → x < 10 → value a ((48 + x) ∷ []) ≡ Some (a * 10 + x)
 unfolding value
 value_one a x h =
     let e : 48 + x - 48 ≡ x = omega arith in
@@ -37,7 +34,7 @@ record Shown (v : ℕ) (l : List ℕ) : Type 0 where
   is : l ≡ first ∷ others
   digit : 48 ≤ first
   lead : first ≡ 48 → v ≡ 0
-  worth : value 0 l ≡ nat.Is v
+  worth : value 0 l ≡ Some v
 
 shown : (v : ℕ) → Shown v (show_natural v)
 unfolding value behind
@@ -51,7 +48,7 @@ shown v = digits_ind Shown one more v
       digit = omega arith;
       lead = λ e. omega arith;
       worth = value_one 0 v h
-          ∙ ap nat.Is (omega arith);
+          ∙ ap Some (omega arith);
     }
 
     more : (v : ℕ) (l : List ℕ) → 10 ≤ v → Shown (v / 10) l → Shown v (l ++ (48 + v % 10) ∷ [])
@@ -63,33 +60,33 @@ shown v = digits_ind Shown one more v
           digit = r.digit;
           lead = λ e. omega (arith, r.lead e);
           worth = value_append l ((48 + v % 10) ∷ []) 0
-              ∙ rw r.worth (value_one (v / 10) (v % 10) (mod-lt v (lit< tt)) ∙ ap nat.Is (div-add-mod' v 10));
+              ∙ rw r.worth (value_one (v / 10) (v % 10) (mod-lt v (lit< tt)) ∙ ap Some (div-add-mod' v 10));
         }
 
-natural_show : (v : ℕ) → v ≤ 2 ^ 63 → read_natural (show_natural v) ≡ nat.Is v
+natural_show : (v : ℕ) → v ≤ 2 ^ 63 → read_natural (show_natural v) ≡ Some v
 unfolding read_natural
 natural_show v h = go (shown v) (small_or v)
   where
-    nonzero : (r : Shown v (show_natural v)) → (r.first ≡ 48 → ⊥) → read_natural (r.first ∷ r.others) ≡ nat.Is v
+    nonzero : (r : Shown v (show_natural v)) → (r.first ≡ 48 → ⊥) → read_natural (r.first ∷ r.others) ≡ Some v
     nonzero r n = rw (ne_eqb r.first 48 n, ← r.is, r.worth, le-leb v (2 ^ 63) h)
 
-    go : Shown v (show_natural v) → (v < 10) ⊎ (10 ≤ v) → read_natural (show_natural v) ≡ nat.Is v
+    go : Shown v (show_natural v) → (v < 10) ⊎ (10 ≤ v) → read_natural (show_natural v) ≡ Some v
     go r (inl w) = rw (digits_one v w) (zero_or v w)
       where
-        zero_or : (v : ℕ) → v < 10 → read_natural ((48 + v) ∷ []) ≡ nat.Is v
+        zero_or : (v : ℕ) → v < 10 → read_natural ((48 + v) ∷ []) ≡ Some v
         zero_or zero w = refl
         zero_or (suc k) w =
             let n : 48 + suc k ≡ 48 → ⊥ = λ e. omega arith in
             let b : 0 * 10 + suc k ≤ 2 ^ 63 = omega arith in
-            rw (ne_eqb (48 + suc k) 48 n, value_one 0 (suc k) w, le-leb _ _ b) (ap nat.Is (omega arith))
+            rw (ne_eqb (48 + suc k) 48 n, value_one 0 (suc k) w, le-leb _ _ b) (ap Some (omega arith))
     go r (inr w) = rw r.is (nonzero r (λ e. omega (arith, r.lead e)))
 
 -- THE LAW: a number of 64 bits that is written is read back
-pub read_show : (z : ℤ) → SFits w64 z → read_number (show_number z) ≡ num.Is z
+pub read_show : (z : ℤ) → SFits w64 z → read_number (show_number z) ≡ Some z
 unfolding read_number show_number
 read_show (pos n) f = go (shown n)
   where
-    go : Shown n (show_natural n) → read_number (show_natural n) ≡ num.Is (pos n)
+    go : Shown n (show_natural n) → read_number (show_natural n) ≡ Some (pos n)
     go r =
         let b : n ≤ 2 ^ 63 = omega (arith, f.sfits) in
         let d : r.first ≡ 45 → ⊥ = λ e. omega (arith, r.digit) in
@@ -97,27 +94,27 @@ read_show (pos n) f = go (shown n)
         rw (← r.is, natural_show n b, le-leb n (2 ^ 63 - 1) (omega (arith, f.sfits))) at (ap read_number r.is ∙ e)
 read_show (negsuc n) f =
     rw (natural_show (suc n) (omega (arith, f.sfits)), ne_eqb (suc n) 0 (λ e. omega arith))
-    (ap (λ (k : ℕ). num.Is (negsuc k)) (omega arith))
+    (ap (λ (k : ℕ). Some (negsuc k)) (omega arith))
 
 -- ---- what is read as a number is that number written
-no_natural : {A : Type 0} (v : ℕ) → nat.Not ≡ nat.Is v → A
+no_natural : {A : Type 0} (v : ℕ) → None ≡ Some v → A
 no_natural v e = absurd (bad e)
   where
-    bad : nat.Not ≡ nat.Is v → ⊥
+    bad : None ≡ Some v → ⊥
     bad e = let z : ◌≡◌ {A = ℕ} 0 1 = cc in omega arith
 
-pub no_number : {A : Type 0} (z : ℤ) → num.Not ≡ num.Is z → A
+pub no_number : {A : Type 0} (z : ℤ) → None ≡ Some z → A
 no_number z e = absurd (bad e)
   where
-    bad : num.Not ≡ num.Is z → ⊥
+    bad : None ≡ Some z → ⊥
     bad e = let z : ◌≡◌ {A = ℕ} 0 1 = cc in omega arith
 
 record Digit (a d : ℕ) (ds : List ℕ) (v : ℕ) : Type 0 where
   low : 48 ≤ d
   high : d ≤ 57
-  then : value (a * 10 + (d - 48)) ds ≡ nat.Is v
+  then : value (a * 10 + (d - 48)) ds ≡ Some v
 
-digit : (a d : ℕ) (ds : List ℕ) (v : ℕ) → value a (d ∷ ds) ≡ nat.Is v → Digit a d ds v
+digit : (a d : ℕ) (ds : List ℕ) (v : ℕ) → value a (d ∷ ds) ≡ Some v → Digit a d ds v
 unfolding value
 digit a d ds v e =
     either (ltb d 48) (λ p. no_natural v (rw p at e))
@@ -125,7 +122,7 @@ digit a d ds v e =
     (λ q. record { low = ltb-false d 48 p; high = ltb-false 57 d q; then = rw (p, q) at e }))
 
 -- the digits behind a number that is not 0
-more_digits : (ds : List ℕ) (a v : ℕ) → 1 ≤ a → value a ds ≡ nat.Is v → show_natural a ++ ds ≡ show_natural v
+more_digits : (ds : List ℕ) (a v : ℕ) → 1 ≤ a → value a ds ≡ Some v → show_natural a ++ ds ≡ show_natural v
 unfolding value
 more_digits [] a v h e = append-nil (show_natural a) ∙ ap show_natural (let h : a ≡ v = cc in h)
 more_digits (d ∷ ds) a v h e =
@@ -140,19 +137,19 @@ record IsNatural (f : List ℕ) (v : ℕ) : Type 0 where
   written : f ≡ show_natural v
   small : v ≤ 2 ^ 63
 
-up_to_lem : (m v : ℕ) (n : Natural) → up_to m n ≡ nat.Is v → (n ≡ nat.Is v) × (v ≤ m)
-up_to_lem m v nat.Not e = no_natural v e
-up_to_lem m v (nat.Is w) e =
+up_to_lem : (m v : ℕ) (n : Option ℕ) → up_to m n ≡ Some v → (n ≡ Some v) × (v ≤ m)
+up_to_lem m v None e = no_natural v e
+up_to_lem m v (Some w) e =
     either (leb w m) (λ h. let f = rw h at e in let s : w ≡ v = cc in (f, omega (arith, leb-true w m h))) (λ h. no_natural v (rw h at e))
 
-natural_is : (f : List ℕ) (v : ℕ) → read_natural f ≡ nat.Is v → IsNatural f v
+natural_is : (f : List ℕ) (v : ℕ) → read_natural f ≡ Some v → IsNatural f v
 unfolding read_natural
 natural_is [] v e = no_natural v e
 natural_is (d ∷ ds) v e =
     either (eqb d 48) (λ h. zero_case ds (eqb-true d 48 h) (rw h at e))
     (λ h. digits_case (eqb-false d 48 h) (up_to_lem (2 ^ 63) v (value 0 (d ∷ ds)) (rw h at e)))
   where
-    zero_case : (l : List ℕ) → d ≡ 48 → cond (ltb 0 (length l)) nat.Not (nat.Is 0) ≡ nat.Is v → IsNatural (d ∷ l) v
+    zero_case : (l : List ℕ) → d ≡ 48 → cond (ltb 0 (length l)) None (Some 0) ≡ Some v → IsNatural (d ∷ l) v
     zero_case [] h e =
         let z : 0 ≡ v = cc in
         record { written = rw (h, ← z) (sym (digits_one 0 (omega arith))); small = omega arith }
@@ -163,7 +160,7 @@ natural_is (d ∷ ds) v e =
     above : (d : ℕ) → (d ≡ 48 → ⊥) → 48 ≤ d → 1 ≤ d - 48
     above d n h = omega arith
 
-    digits_case : (d ≡ 48 → ⊥) → (value 0 (d ∷ ds) ≡ nat.Is v) × (v ≤ 2 ^ 63) → IsNatural (d ∷ ds) v
+    digits_case : (d ≡ 48 → ⊥) → (value 0 (d ∷ ds) ≡ Some v) × (v ≤ 2 ^ 63) → IsNatural (d ∷ ds) v
     digits_case n p =
         let r = digit 0 d ds v p.0 in
         let a : 0 * 10 + (d - 48) ≡ d - 48 = omega arith in
@@ -173,38 +170,38 @@ natural_is (d ∷ ds) v e =
         record { written = rw (start, x) at all; small = p.1 }
 
 -- the reader's size fits, and has no more than 19 digits
-pub natural_small : (f : List ℕ) (v : ℕ) → read_natural f ≡ nat.Is v → v ≤ 2 ^ 63
+pub natural_small : (f : List ℕ) (v : ℕ) → read_natural f ≡ Some v → v ≤ 2 ^ 63
 natural_small f v e = (natural_is f v e).small
 
-pub natural_long : (f : List ℕ) → 19 < length f → read_natural f ≡ nat.Not
+pub natural_long : (f : List ℕ) → 19 < length f → read_natural f ≡ None
 natural_long f h = go (read_natural f) refl
   where
     bad : (v : ℕ) → IsNatural f v → ⊥
     bad v i = omega (arith, ap length i.written, short 18 v (omega (arith, i.small)))
 
-    go : (n : Natural) → read_natural f ≡ n → n ≡ nat.Not
-    go nat.Not e = refl
-    go (nat.Is v) e = absurd (bad v (natural_is f v e))
+    go : (n : Option ℕ) → read_natural f ≡ n → n ≡ None
+    go None e = refl
+    go (Some v) e = absurd (bad v (natural_is f v e))
 
 pub record IsNumber (f : List ℕ) (z : ℤ) : Type 0 where
   pub written : f ≡ show_number z
   pub fits : SFits w64 z
 
-plus_is : (f : List ℕ) (n : Natural) (z : ℤ) → read_natural f ≡ n → plus n ≡ num.Is z → IsNumber f z
+plus_is : (f : List ℕ) (n : Option ℕ) (z : ℤ) → read_natural f ≡ n → plus n ≡ Some z → IsNumber f z
 unfolding show_number
-plus_is f nat.Not z r e = no_number z e
-plus_is f (nat.Is v) z r e =
+plus_is f None z r e = no_number z e
+plus_is f (Some v) z r e =
     either (leb v (2 ^ 63 - 1)) (λ h. let f = rw h at e in is (cc) (leb-true v (2 ^ 63 - 1) h)) (λ h. no_number z (rw h at e))
   where
     is : z ≡ pos v → v ≤ 2 ^ 63 - 1 → IsNumber f z
     is h l = rw h (record { written = (natural_is f v r).written; fits = record { sfits = omega arith } })
 
-minus_is : (f : List ℕ) (n : Natural) (z : ℤ) → read_natural f ≡ n → minus n ≡ num.Is z → IsNumber (45 ∷ f) z
+minus_is : (f : List ℕ) (n : Option ℕ) (z : ℤ) → read_natural f ≡ n → minus n ≡ Some z → IsNumber (45 ∷ f) z
 unfolding show_number
-minus_is f nat.Not z r e = no_number z e
-minus_is f (nat.Is v) z r e = go v r e
+minus_is f None z r e = no_number z e
+minus_is f (Some v) z r e = go v r e
   where
-    go : (v : ℕ) → read_natural f ≡ nat.Is v → cond (eqb v 0) num.Not (num.Is (negsuc (v - 1))) ≡ num.Is z → IsNumber (45 ∷ f) z
+    go : (v : ℕ) → read_natural f ≡ Some v → cond (eqb v 0) None (Some (negsuc (v - 1))) ≡ Some z → IsNumber (45 ∷ f) z
     go zero r e = no_number z e
     go (suc v) r e =
         let i = natural_is f (suc v) r in
@@ -214,12 +211,12 @@ minus_is f (nat.Is v) z r e = go v r e
         rw h (record { written = ap (λ (l : List ℕ). 45 ∷ l) i.written; fits = record { sfits = omega (arith, i.small) } })
 
 -- THE LAW, the other way
-pub number_is : (f : List ℕ) (z : ℤ) → read_number f ≡ num.Is z → IsNumber f z
+pub number_is : (f : List ℕ) (z : ℤ) → read_number f ≡ Some z → IsNumber f z
 unfolding read_number
 number_is [] z e = no_number z e
 number_is (c ∷ cs) z e =
     either (eqb c 45) (λ h. rw (eqb-true c 45 h) (minus_is cs (read_natural cs) z refl (rw h at e)))
     (λ h. plus_is (c ∷ cs) (read_natural (c ∷ cs)) z refl (rw h at e))
 
-pub number_length : (f : List ℕ) (z : ℤ) → read_number f ≡ num.Is z → length f ≤ 20
+pub number_length : (f : List ℕ) (z : ℤ) → read_number f ≡ Some z → length f ≤ 20
 number_length f z e = let r = number_is f z e in rw r.written (short_number z r.fits)

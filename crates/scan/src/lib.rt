@@ -2,27 +2,13 @@
 // function is total: a part of a slice is cut to the slice.
 #![tactic(auto)]
 
-ghost use Rattle.std.specs.Prelude.{◌≡◌, ◌+◌, ◌≤◌, min, length};
+ghost use Rattle.std.specs.Prelude.{◌≡◌, ◌+◌, ◌≤◌, None, min, length};
 ghost use Rattle.std.proofs.Math.Seq.{slice};
 ghost use Rattle.scan.specs.Decimal.{read_natural, read_number};
 ghost use Rattle.scan.specs.Find.{find_byte};
 ghost use Rattle.scan.specs.Fields.{fields_at, same_bytes};
 ghost use Rattle.scan.specs.Numbers.{numbers, are_there, stored};
 ghost use Rattle.scan.specs.Code.{ends_at, Worth, UpToTab};
-
-// A size that stands in a field, or none.
-#[derive(Clone, Copy)]
-enum Natural {
-    Is(u64),
-    Not,
-}
-
-// A number that stands in a field, or none.
-#[derive(Clone, Copy)]
-pub enum Number {
-    Is(i64),
-    Not,
-}
 
 // Digits: what they are worth, and the place behind them.
 #[derive(Clone, Copy)]
@@ -34,14 +20,14 @@ struct Digits {
 // A size or none, and where the field ends if it is one.
 #[derive(Clone, Copy)]
 struct NaturalField {
-    natural: Natural,
+    natural: Option<u64>,
     end: usize,
 }
 
 // A number or none, and where the field ends if it is one.
 #[derive(Clone, Copy)]
 struct NumberField {
-    number: Number,
+    number: Option<i64>,
     end: usize,
 }
 
@@ -114,10 +100,10 @@ fn read_digits(s: &[u8], from: usize, to: usize) -> Digits
 // The size that stands from `from` up to a tab or the end of s.
 fn read_natural(s: &[u8], from: usize) -> NaturalField
     requires { from ≤ length s.now }
-    ensures { UpToTab Natural.Not read_natural s.now from result.natural result.end }
+    ensures { UpToTab None read_natural s.now from result.natural result.end }
 {
     let none = NaturalField {
-        natural: Natural::Not,
+        natural: None,
         end: from,
     };
     if from == s.len() {
@@ -126,7 +112,7 @@ fn read_natural(s: &[u8], from: usize) -> NaturalField
     if s[from] == 48 {
         if ends(s, from + 1) {
             return NaturalField {
-                natural: Natural::Is(0),
+                natural: Some(0),
                 end: from + 1,
             };
         }
@@ -143,7 +129,7 @@ fn read_natural(s: &[u8], from: usize) -> NaturalField
         }
         if value <= 9223372036854775808 {
             return NaturalField {
-                natural: Natural::Is(value),
+                natural: Some(value),
                 end,
             };
         }
@@ -155,10 +141,10 @@ fn read_natural(s: &[u8], from: usize) -> NaturalField
 // The number that stands from `from` up to a tab or the end of s.
 fn read_field(s: &[u8], from: usize) -> NumberField
     requires { from ≤ length s.now }
-    ensures { UpToTab Number.Not read_number s.now from result.number result.end }
+    ensures { UpToTab None read_number s.now from result.number result.end }
 {
     let none = NumberField {
-        number: Number::Not,
+        number: None,
         end: from,
     };
     if from == s.len() {
@@ -168,26 +154,26 @@ fn read_field(s: &[u8], from: usize) -> NumberField
         let f = read_natural(s, from + 1);
         let n = f.natural;
         let end = f.end;
-        let Natural::Is(m) = n else {
+        let Some(m) = n else {
             return none;
         };
         if m == 0 {
             return none;
         }
         return NumberField {
-            number: Number::Is(-((m - 1) as i64) - 1),
+            number: Some(-((m - 1) as i64) - 1),
             end,
         };
     }
     let f = read_natural(s, from);
     let n = f.natural;
     let end = f.end;
-    let Natural::Is(m) = n else {
+    let Some(m) = n else {
         return none;
     };
     if m <= 9223372036854775807 {
         return NumberField {
-            number: Number::Is(m as i64),
+            number: Some(m as i64),
             end,
         };
     }
@@ -195,7 +181,7 @@ fn read_field(s: &[u8], from: usize) -> NumberField
 }
 
 // The number that stands from `from` up to `to`, as far as s goes.
-pub fn read_number(s: &[u8], from: usize, to: usize) -> Number
+pub fn read_number(s: &[u8], from: usize, to: usize) -> Option<i64>
     ensures { result ≡ read_number (slice from to s.now) }
 {
     let end = least(to, s.len());
@@ -206,7 +192,7 @@ pub fn read_number(s: &[u8], from: usize, to: usize) -> Number
     let stop = f.end;
     // no number has a tab in it
     if stop < part.len() {
-        return Number::Not;
+        return None;
     }
     number
 }
@@ -246,7 +232,7 @@ pub fn read_numbers(s: &[u8], at: usize, into: &mut [i64]) -> bool
         let f = read_field(s, next);
         let n = f.number;
         let end = f.end;
-        let Number::Is(z) = n else {
+        let Some(z) = n else {
             return false;
         };
         into[i] = z;

@@ -1,4 +1,5 @@
 -- KERNEL NUMBERS RISE (02, E3): what the machine carries, which lines it turns away with 7, and what it leaves as 01 has it.
+use Rattle.std.specs.Prelude.{Option, Some, None}
 use mathlib.Core.Path.{◌≡◌, refl, sym, ap, ◌∙◌}
 use mathlib.Core.Bool.{Bool, false, cond, ◌||◌}
 use mathlib.Core.Logic.{◌⊎◌, inl, inr}
@@ -12,7 +13,6 @@ use Rattle.algebra.proofs.Order.{⩽_trans, ⩽_refl, lt_of_suc_le, tested}
 use Rattle.algebra.proofs.Reify.{reify}
 use Rattle.algebra.proofs.Linear.{lin, lin<, ◌&◌, ◌&<◌, none}
 use Rattle.word.proofs.Compare.{le_le_z, lt_le_z, between_true}
-use Rattle.scan.specs.declared.Number.{Number}
 use Rattle.text.specs.declared.Line.{Line}
 use Rattle.text.specs.Line.{serial_of, read_line}
 use Rattle.text.specs.Answer.{Reply, refused_reply, reply_of, reply}
@@ -21,13 +21,12 @@ use Rattle.text.proofs.Call.{own_refusal}
 use Rattle.stream.specs.declared.State.{State}
 use Rattle.stream.specs.Machine.{lines, Machine, answers}
 use Rattle.stream.specs.Sheet.{initial, largest_with, if_risen, reply_after, answer_line, machine, heading, sheet}
-use Rattle.scan.specs.declared.Number.TheVariants as num
 use Rattle.text.specs.declared.Line.TheVariants as line
 
 -- ---- the serials of lines that have the form
-abbrev pub with_serial : Number → List ℤ → List ℤ
-with_serial num.Not zs = zs
-with_serial (num.Is serial) zs = serial ∷ zs
+abbrev pub with_serial : Option ℤ → List ℤ → List ℤ
+with_serial None zs = zs
+with_serial (Some serial) zs = serial ∷ zs
 
 unfoldable pub serials : List (List ℕ) → List ℤ
 serials [] = []
@@ -69,9 +68,9 @@ pub record Largest (m : ℤ) (zs : List ℤ) : Type 0 where
   pub most : AtMost m zs
   pub among : Among m zs
 
-larger : {m : ℤ} (n : Number) (largest : ℤ) (zs : List ℤ) → Largest m (largest_with n largest ∷ zs) → Largest m (largest ∷ with_serial n zs)
-larger num.Not largest zs = λ h. h
-larger {m} (num.Is serial) largest zs =
+larger : {m : ℤ} (n : Option ℤ) (largest : ℤ) (zs : List ℤ) → Largest m (largest_with n largest ∷ zs) → Largest m (largest ∷ with_serial n zs)
+larger None largest zs = λ h. h
+larger {m} (Some serial) largest zs =
     tested (λ t. Largest m (cond t largest serial ∷ zs) → Largest m (largest ∷ serial ∷ zs)) serial largest
     (λ k h. record { most = (h.most.0, (⩽_trans k h.most.0, h.most.1)); among = passed h.among })
     (λ k h. record {
@@ -89,7 +88,7 @@ largest_before [] s = record { most = (⩽_refl s.largest, tt); among = inl refl
 largest_before (l ∷ ls) s = larger (serial_of (read_line l)) s.largest (serials ls) (largest_before ls (answer_line s l).state)
 
 -- ---- 7 is given to a line with a serial that is not above the largest, and to no other
-pub seven_when : (l : Line) (serial largest : ℤ) → serial_of l ≡ num.Is serial → serial ⩽ largest →
+pub seven_when : (l : Line) (serial largest : ℤ) → serial_of l ≡ Some serial → serial ⩽ largest →
     reply_after largest l ≡ refused_reply serial (pos 7)
 unfolding reply_after
 seven_when l serial largest e h = rw (e, le_le_z h)
@@ -97,16 +96,16 @@ seven_when l serial largest e h = rw (e, le_le_z h)
 not_own : (l : Line) → (reply_of l).refusal ≡ pos 7 → ⊥
 not_own l e = (rw e at (own_refusal l).1).le
 
-pub seven_only : (l : Line) (largest : ℤ) → (reply_after largest l).refusal ≡ pos 7 → (serial : ℤ) × (serial_of l ≡ num.Is serial) × (serial ⩽ largest)
+pub seven_only : (l : Line) (largest : ℤ) → (reply_after largest l).refusal ≡ pos 7 → (serial : ℤ) × (serial_of l ≡ Some serial) × (serial ⩽ largest)
 unfolding reply_after
 seven_only l largest e = go (serial_of l) refl e
   where
-    go : (n : Number) → serial_of l ≡ n → (if_risen n largest (reply_of l)).refusal ≡ pos 7 →
-        (serial : ℤ) × (serial_of l ≡ num.Is serial) × (serial ⩽ largest)
-    go num.Not h = λ e. absurd (not_own l e)
-    go (num.Is serial) h =
+    go : (n : Option ℤ) → serial_of l ≡ n → (if_risen n largest (reply_of l)).refusal ≡ pos 7 →
+        (serial : ℤ) × (serial_of l ≡ Some serial) × (serial ⩽ largest)
+    go None h = λ e. absurd (not_own l e)
+    go (Some serial) h =
         tested (λ t. (cond t (refused_reply serial (pos 7)) (reply_of l)).refusal ≡ pos 7 →
-        (serial : ℤ) × (serial_of l ≡ num.Is serial) × (serial ⩽ largest)) serial largest
+        (serial : ℤ) × (serial_of l ≡ Some serial) × (serial ⩽ largest)) serial largest
         (λ k e. (serial, h, k))
         (λ k e. absurd (not_own l e))
 
@@ -142,8 +141,8 @@ unfoldable pub passing : List Entry → List ℤ
 passing [] = []
 passing (e ∷ es) = cond (five_or_seven e.answer) (passing es) (with_serial (serial_of e.asked) (passing es))
 
-numbered_rises : (largest serial : ℤ) (own : Reply) (zs : List ℤ) → Rises (largest_with (num.Is serial) largest) zs →
-    Rises largest (cond (five_or_seven (if_risen (num.Is serial) largest own)) zs (serial ∷ zs))
+numbered_rises : (largest serial : ℤ) (own : Reply) (zs : List ℤ) → Rises (largest_with (Some serial) largest) zs →
+    Rises largest (cond (five_or_seven (if_risen (Some serial) largest own)) zs (serial ∷ zs))
 numbered_rises largest serial own zs =
     tested (λ t. Rises (cond t largest serial) zs → Rises largest (cond (five_or_seven (cond t (refused_reply serial (pos 7)) own)) zs (serial ∷ zs)))
     serial largest
@@ -191,9 +190,9 @@ unfolding sheet
 rising_as_before s r = ap (λ (b : List ℕ). heading ++ b) (as_before (lines s) initial r)
 
 -- a line alone is such a sheet: so the call of a line, which has no sheet, answers it as the program does at the top of one
-top_rises : (n : Number) → Ranged n → Rises (pos 0) (with_serial n [])
-top_rises num.Not h = tt
-top_rises (num.Is serial) h = (lin< (serial ∷ []) ((between_true h).0 & none) (search reify depth 20) tt, tt)
+top_rises : (n : Option ℤ) → Ranged n → Rises (pos 0) (with_serial n [])
+top_rises None h = tt
+top_rises (Some serial) h = (lin< (serial ∷ []) ((between_true h).0 & none) (search reify depth 20) tt, tt)
 
 pub line_alone : (l : List ℕ) → (answer_line initial l).bytes ≡ (reply l).bytes
 unfolding answer_line reply

@@ -8,7 +8,6 @@ ghost use Rattle.stream.specs.Machine.{new_line, go_on, cut, line_end, answers_f
 ghost use Rattle.stream.specs.Sheet.{initial, machine, heading, place_of, unless_short};
 ghost use Rattle.stream.specs.Code.{Wrote};
 
-use scan::Number;
 use text::{ANSWER_ROOM, LineAnswer};
 
 // So many bytes of a line tell its answer: no line as long has the form.
@@ -61,7 +60,7 @@ fn next(state: State, line: &[u8], out: &mut [u8]) -> Answered
 {
     let mut largest = state.largest;
     let asked = text::read_line(line);
-    if let Number::Is(serial) = asked.serial() {
+    if let Some(serial) = asked.serial() {
         if serial <= largest {
             let not_above = text::refuse(serial, 7, out);
             return counted(largest, not_above);

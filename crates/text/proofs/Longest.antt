@@ -1,4 +1,5 @@
 -- No line over 116 bytes has the form: 7 for the serial, 3 for the kind, 20 for each of five numbers, and six tabs.
+use Rattle.std.specs.Prelude.{Option, Some, None}
 use mathlib.Core.Path.{◌≡◌, refl, ap}
 use mathlib.Core.List.{List, [], ◌∷◌, ◌++◌}
 use Prim.Native.Nat.{ℕ, zero, suc, ◌+◌, ◌*◌, ◌≤◌, ◌<◌}
@@ -8,7 +9,6 @@ use lib.IntN.{ℤ}
 use lib.ListN.{length, length-append}
 use Rattle.algebra.proofs.Test.{either}
 use Rattle.buffer.proofs.Written.{short_range}
-use Rattle.scan.specs.declared.Number.{Number}
 use Rattle.scan.specs.Decimal.{read_number}
 use Rattle.scan.specs.Fields.{split, fields, same_bytes}
 use Rattle.scan.specs.Numbers.{Numbers, are, none, in_front, numbers}
@@ -17,7 +17,6 @@ use Rattle.scan.proofs.Read.{number_is, number_length}
 use Rattle.text.specs.declared.Line.{Line}
 use Rattle.text.specs.Line.{longest_line, is_serial, EXP, LOG, formed, exp_of, log_of, kind_line, serial_line, line_of, read_line}
 use Rattle.text.proofs.Serial.{IsSerial}
-use Rattle.scan.specs.declared.Number.TheVariants as num
 use Rattle.text.specs.declared.Line.TheVariants as line
 
 -- the bytes of some fields, a mark behind each
@@ -38,24 +37,24 @@ WellFormed line.Malformed = ⊥
 WellFormed (line.Exp serial n exponent start) = Unit
 WellFormed (line.Log serial n point) = Unit
 
-abbrev Some : Numbers → Type 0
-Some none = ⊥
-Some (are zs) = Unit
+abbrev AreThere : Numbers → Type 0
+AreThere none = ⊥
+AreThere (are zs) = Unit
 
-numbers_total : (n : ℕ) (fs : List (List ℕ)) → Some (numbers n fs) → total fs ≤ 21 * n
+numbers_total : (n : ℕ) (fs : List (List ℕ)) → AreThere (numbers n fs) → total fs ≤ 21 * n
 unfolding numbers total
 numbers_total zero [] g = omega arith
 numbers_total zero (f ∷ fs) g = absurd g
 numbers_total (suc n) [] g = absurd g
 numbers_total (suc n) (f ∷ fs) g = go (read_number f) (numbers n fs) refl g (numbers_total n fs)
   where
-    go : (r : Number) (zs : Numbers) → read_number f ≡ r → Some (in_front r zs) → (Some zs → total fs ≤ 21 * n) →
+    go : (r : Option ℤ) (zs : Numbers) → read_number f ≡ r → AreThere (in_front r zs) → (AreThere zs → total fs ≤ 21 * n) →
         length f + 1 + total fs ≤ 21 * suc n
-    go num.Not zs e g h = absurd g
-    go (num.Is z) none e g h = absurd g
-    go (num.Is z) (are zs) e g h = omega (arith, number_length f z e, h tt)
+    go None zs e g h = absurd g
+    go (Some z) none e g h = absurd g
+    go (Some z) (are zs) e g h = omega (arith, number_length f z e, h tt)
 
-some : (zs : Numbers) (k : List ℤ → Line) → WellFormed (formed zs k) → Some zs
+some : (zs : Numbers) (k : List ℤ → Line) → WellFormed (formed zs k) → AreThere zs
 some none k g = absurd g
 some (are zs) k g = tt
 
@@ -72,7 +71,7 @@ kind_total serial (f ∷ fs) g =
     three : WellFormed (formed (numbers 3 fs) (log_of serial)) → total fs ≤ 63
     three g = numbers_total 3 fs (some (numbers 3 fs) (log_of serial) g)
 
-serial_length : (f : List ℕ) (z : ℤ) → read_number f ≡ num.Is z → IsSerial z → length f ≤ 7
+serial_length : (f : List ℕ) (z : ℤ) → read_number f ≡ Some z → IsSerial z → length f ≤ 7
 serial_length f z e b = rw (number_is f z e).written (short_range 1 6 z (lit< tt) b)
 
 line_total : (fs : List (List ℕ)) → WellFormed (line_of fs) → total fs ≤ 117
@@ -80,9 +79,9 @@ unfolding line_of total
 line_total [] g = absurd g
 line_total (f ∷ fs) g = go (read_number f) refl g
   where
-    go : (n : Number) → read_number f ≡ n → WellFormed (serial_line n fs) → length f + 1 + total fs ≤ 117
-    go num.Not e g = absurd g
-    go (num.Is z) e g =
+    go : (n : Option ℤ) → read_number f ≡ n → WellFormed (serial_line n fs) → length f + 1 + total fs ≤ 117
+    go None e g = absurd g
+    go (Some z) e g =
         either (is_serial z) (λ h. omega (arith, serial_length f z e h, kind_total z fs (rw h at g))) (λ h. absurd (rw h at g))
 
 pub too_long : (l : List ℕ) → longest_line < length l → read_line l ≡ line.Malformed

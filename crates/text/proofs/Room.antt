@@ -1,5 +1,6 @@
 -- THE ROOM of an answer line: a width for each figure, and their sum. Every answer line fits 128 bytes; to a line that is read, whose serial
 -- has at most 7 digits, it has at most 115 bytes for EXP and 107 for LOG.
+use Rattle.std.specs.Prelude.{Option, Some, None}
 use mathlib.Core.Path.{◌≡◌, refl}
 use mathlib.Core.List.{List, [], ◌∷◌}
 use Prim.Native.Nat.{ℕ, suc, ◌+◌, ◌^◌, ◌≤◌}
@@ -20,7 +21,6 @@ use Rattle.buffer.specs.Decimal.{show_number}
 use Rattle.buffer.specs.Lines.{field_bytes, line_bytes}
 use Rattle.buffer.proofs.Written.{short, short_number, short_range}
 use Rattle.buffer.proofs.Lines.{line_length}
-use Rattle.scan.specs.declared.Number.{Number}
 use Rattle.point.specs.declared.Point.{Point}
 use Rattle.answer.specs.declared.Refusal.TheVariants.{Steps, Exponent, Part, Zero}
 use Rattle.answer.specs.declared.Answer.{Answer}
@@ -35,7 +35,6 @@ use Rattle.text.specs.declared.Line.{Line}
 use Rattle.text.specs.Line.{read_line, serial_of}
 use Rattle.text.specs.Answer.{answer_room, fields_of, refused_reply, answer_reply, reply_of, reply}
 use Rattle.text.proofs.Serial.{IsSerial, Ranged, line_serial}
-use Rattle.scan.specs.declared.Number.TheVariants as num
 use Rattle.text.specs.declared.Kind.TheVariants as kind
 use Rattle.text.specs.declared.Line.TheVariants as line
 
@@ -173,9 +172,9 @@ unfolding reply_of
 log_bytes serial n point s = answer_bytes kind.Log serial n _ s (log_fitting n point.x point.y)
 
 -- the serial is a number of the machine, and need not lie in 01's range
-abbrev pub SerialFits : Number → Type 0
-SerialFits num.Not = Unit {0}
-SerialFits (num.Is serial) = SFits w64 serial
+abbrev pub SerialFits : Option ℤ → Type 0
+SerialFits None = Unit {0}
+SerialFits (Some serial) = SFits w64 serial
 
 pub reply_room : (l : Line) → SerialFits (serial_of l) → length (reply_of l).bytes ≤ answer_room
 unfolding reply_of room
@@ -197,9 +196,9 @@ pub serial_fits : (z : ℤ) → IsSerial z → SFits w64 z
 serial_fits z h = let b = between_true h in
     sfits_range (lin (z ∷ []) (b.0 & none) (search reify depth 20) tt) (lin< (z ∷ []) (b.1 & none) (search reify depth 20) tt)
 
-read_fits : (n : Number) → Ranged n → SerialFits n
-read_fits num.Not h = tt
-read_fits (num.Is serial) h = serial_fits serial h
+read_fits : (n : Option ℤ) → Ranged n → SerialFits n
+read_fits None h = tt
+read_fits (Some serial) h = serial_fits serial h
 
 pub read_reply_room : (l : List ℕ) → length (reply l).bytes ≤ answer_room
 unfolding reply

@@ -1,5 +1,6 @@
 -- A line that is read has a serial in its range, and it is the number in front of the first tab.
-use mathlib.Core.Path.{◌≡◌, refl, sym, subst, ◌∙◌}
+use Rattle.std.specs.Prelude.{Option, Some, None}
+use mathlib.Core.Path.{◌≡◌, refl, sym, ◌∙◌}
 use mathlib.Core.Bool.{true}
 use mathlib.Core.List.{List, [], ◌∷◌}
 use Prim.Native.Nat.{ℕ, suc, ◌+◌, ◌<◌}
@@ -10,22 +11,21 @@ use lib.ListN.{length}
 use lib.Seq.{slice}
 use borrow.Author.Tests.{ltb-true, ltb-false}
 use Rattle.algebra.proofs.Test.{either}
-use Rattle.scan.specs.declared.Number.{Number}
 use Rattle.scan.specs.Decimal.{read_number}
 use Rattle.scan.specs.Fields.{fields, fields_at, same_bytes}
 use Rattle.scan.proofs.Find.{Ended}
+use Rattle.scan.proofs.Read.{no_number}
 use Rattle.scan.proofs.Fields.{no_field, field_parts}
 use Rattle.scan.specs.Numbers.{Numbers, are, none, numbers}
 use Rattle.text.specs.declared.Line.{Line}
 use Rattle.text.specs.Line.{is_serial, EXP, LOG, formed, exp_of, log_of, kind_line, serial_line, line_of, read_line, serial_of}
-use Rattle.scan.specs.declared.Number.TheVariants as num
 
 abbrev pub IsSerial : ℤ → Type 0
 IsSerial z = is_serial z ≡ true
 
-abbrev pub Ranged : Number → Type 0
-Ranged num.Not = Unit {0}
-Ranged (num.Is serial) = IsSerial serial
+abbrev pub Ranged : Option ℤ → Type 0
+Ranged None = Unit {0}
+Ranged (Some serial) = IsSerial serial
 
 kind_serial : (serial : ℤ) (fs : List (List ℕ)) → IsSerial serial → Ranged (serial_of (kind_line serial fs))
 unfolding kind_line
@@ -46,47 +46,43 @@ pub line_serial : (l : List ℕ) → Ranged (serial_of (read_line l))
 unfolding read_line line_of
 line_serial l = go (fields l)
   where
-    number : (r : Number) (fs : List (List ℕ)) → Ranged (serial_of (serial_line r fs))
-    number num.Not fs = tt
-    number (num.Is z) fs = either (is_serial z) (λ e. rw e (kind_serial z fs e)) (λ e. rw e tt)
+    number : (r : Option ℤ) (fs : List (List ℕ)) → Ranged (serial_of (serial_line r fs))
+    number None fs = tt
+    number (Some z) fs = either (is_serial z) (λ e. rw e (kind_serial z fs e)) (λ e. rw e tt)
 
     go : (fs : List (List ℕ)) → Ranged (serial_of (line_of fs))
     go [] = tt
     go (f ∷ fs) = number (read_number f) fs
 
 -- ---- the serial is the first field, and others follow it
-abbrev Some : Number → Type 0
-Some num.Not = ⊥
-Some (num.Is z) = Unit {0}
-
 -- what serial_of reads is z
-record Read (z : ℤ) (r : Number) (fs : List (List ℕ)) : Type 0 where
-  number : r ≡ num.Is z
+record Read (z : ℤ) (r : Option ℤ) (fs : List (List ℕ)) : Type 0 where
+  number : r ≡ Some z
   others : 0 < length fs
 
-kind_read : (serial z : ℤ) (fs : List (List ℕ)) → serial_of (kind_line serial fs) ≡ num.Is z → Read z (num.Is serial) fs
+kind_read : (serial z : ℤ) (fs : List (List ℕ)) → serial_of (kind_line serial fs) ≡ Some z → Read z (Some serial) fs
 unfolding kind_line
-kind_read serial z [] e = absurd (subst Some (sym e) tt)
+kind_read serial z [] e = no_number z e
 kind_read serial z (f ∷ fs) e =
     either (same_bytes f EXP) (λ g. kind (numbers 5 fs) (exp_of serial) (λ zs. refl) (rw g at e))
     (λ g. either (same_bytes f LOG) (λ h. kind (numbers 3 fs) (log_of serial) (λ zs. refl) (rw (g, h) at e))
-    (λ h. absurd (subst Some (sym (rw (g, h) at e)) tt)))
+    (λ h. no_number z (rw (g, h) at e)))
   where
     more : 0 < suc (length fs)
     more = omega arith
 
-    kind : (r : Numbers) (k : List ℤ → Line) → ((zs : List ℤ) → serial_of (k zs) ≡ num.Is serial) → serial_of (formed r k) ≡ num.Is z →
-        Read z (num.Is serial) (f ∷ fs)
+    kind : (r : Numbers) (k : List ℤ → Line) → ((zs : List ℤ) → serial_of (k zs) ≡ Some serial) → serial_of (formed r k) ≡ Some z →
+        Read z (Some serial) (f ∷ fs)
     kind (are zs) k is e = record { number = sym (is zs) ∙ e; others = more }
-    kind none k is e = absurd (subst Some (sym e) tt)
+    kind none k is e = no_number z e
 
-line_read : (z : ℤ) (r : Number) (fs : List (List ℕ)) → serial_of (serial_line r fs) ≡ num.Is z → Read z r fs
-line_read z num.Not fs e = absurd (subst Some (sym e) tt)
-line_read z (num.Is y) fs e =
-    either (is_serial y) (λ h. kind_read y z fs (rw h at e)) (λ h. absurd (subst Some (sym (rw h at e)) tt))
+line_read : (z : ℤ) (r : Option ℤ) (fs : List (List ℕ)) → serial_of (serial_line r fs) ≡ Some z → Read z r fs
+line_read z None fs e = no_number z e
+line_read z (Some y) fs e =
+    either (is_serial y) (λ h. kind_read y z fs (rw h at e)) (λ h. no_number z (rw h at e))
 
 -- e is the place of the first tab
-pub first_number : (l : List ℕ) (z : ℤ) {e : ℕ} → Ended 9 l 0 e → serial_of (read_line l) ≡ num.Is z → (read_number (slice 0 e l) ≡ num.Is z) × (e < length l)
+pub first_number : (l : List ℕ) (z : ℤ) {e : ℕ} → Ended 9 l 0 e → serial_of (read_line l) ≡ Some z → (read_number (slice 0 e l) ≡ Some z) × (e < length l)
 unfolding read_line line_of
 first_number l z {e} f h =
     let r = line_read z (read_number (slice 0 e l)) (fields_at l (e + 1)) (rw (field_parts f) at h) in (

@@ -1,14 +1,12 @@
 -- A line of a sheet: which bytes are one, and what it asks (01, A sheet line).
-use Rattle.std.specs.Prelude.{Bool, cond, List, [], ◌∷◌, ℕ, ℤ, pos, get_or}
+use Rattle.std.specs.Prelude.{Bool, cond, List, [], ◌∷◌, ℕ, ℤ, pos, get_or, Option, Some, None}
 use Rattle.word.specs.Compare.{between}
-use Rattle.scan.specs.declared.Number.{Number}
 use Rattle.scan.specs.Decimal.{read_number}
 use Rattle.scan.specs.Fields.{fields, same_bytes}
 use Rattle.scan.specs.Numbers.{Numbers, are, none, numbers}
 use Rattle.point.specs.declared.Point.{Point}
 use Rattle.text.specs.declared.Line.{Line}
 use Rattle.text.specs.declared.Line.TheVariants.{Exp, Log, Malformed}
-use Rattle.scan.specs.declared.Number.TheVariants as num
 
 -- ---- the words of the format
 abbrev pub EXP : List ℕ
@@ -51,9 +49,9 @@ kind_line serial (f ∷ fs) =
 abbrev pub is_serial : ℤ → Bool
 is_serial z = between (pos 1) (pos 9999999) z
 
-abbrev pub serial_line : Number → List (List ℕ) → Line
-serial_line num.Not fs = Malformed
-serial_line (num.Is serial) fs = cond (is_serial serial) (kind_line serial fs) Malformed
+abbrev pub serial_line : Option ℤ → List (List ℕ) → Line
+serial_line None fs = Malformed
+serial_line (Some serial) fs = cond (is_serial serial) (kind_line serial fs) Malformed
 
 unfoldable pub line_of : List (List ℕ) → Line
 line_of [] = Malformed
@@ -64,10 +62,10 @@ unfoldable pub read_line : List ℕ → Line
 read_line l = line_of (fields l)
 
 -- ---- the serial of a line that has the form
-abbrev pub serial_of : Line → Number
-serial_of Malformed = num.Not
-serial_of (Exp serial n exponent start) = num.Is serial
-serial_of (Log serial n point) = num.Is serial
+abbrev pub serial_of : Line → Option ℤ
+serial_of Malformed = None
+serial_of (Exp serial n exponent start) = Some serial
+serial_of (Log serial n point) = Some serial
 
 -- the most bytes that a line of the form has
 abbrev pub longest_line : ℕ

@@ -11,7 +11,6 @@ ghost use Rattle.text.specs.Code.{Replied};
 
 use answer::{Answer, Figures};
 use point::Point;
-use scan::Number;
 
 // The least room for the answer to a line.
 pub const ANSWER_ROOM: usize = 128;
@@ -42,7 +41,7 @@ pub enum Line {
 
 impl Line {
     // Its serial, if it has the form.
-    pub fn serial(self) -> Number
+    pub fn serial(self) -> Option<i64>
         ensures { result ≡ serial_of self }
     {
         match self {
@@ -51,9 +50,9 @@ impl Line {
                 n,
                 exponent,
                 start,
-            } => Number::Is(serial),
-            Line::Log { serial, n, point } => Number::Is(serial),
-            Line::Malformed => Number::Not,
+            } => Some(serial),
+            Line::Log { serial, n, point } => Some(serial),
+            Line::Malformed => None,
         }
     }
 }
@@ -128,7 +127,7 @@ pub fn read_line(s: &[u8]) -> Line
     ensures { result ≡ read_line s.now }
 {
     let e = scan::find_byte(s, 0, 9);
-    let Number::Is(serial) = scan::read_number(s, 0, e) else {
+    let Some(serial) = scan::read_number(s, 0, e) else {
         return Line::Malformed;
     };
     if serial < 1 {

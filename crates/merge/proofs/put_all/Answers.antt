@@ -1,7 +1,7 @@
 -- `merge::put_all` meets its contract: by the last byte.
 use native.Mathlib.Omega.{arith}
 use lib.ListN.{length, length-append}
-use mathlib.Core.Path.{◌≡◌, ap}
+use mathlib.Core.Path.{ap}
 use mathlib.Core.List.{[], ◌∷◌}
 use Rattle.buffer.proofs.Put.{nothing}
 use Rattle.buffer.proofs.Fitting.{fitted_put}

@@ -29,7 +29,7 @@ returns-in_default c =
 -- the turn's number, and where its field ends
 pub overflow_add-next : goal.overflow_add-next
 overflow_add-next c =
-    let end = field_end c.in-Is.z c.read_field-f.ensures c.in-Is.is in
+    let end = field_end c.in-Some.z c.read_field-f.ensures c.in-Some.is in
     let field = ended {m = 9} {s = c.args.s.now} {from = c.loop-i.next} c.if-s-next.false end in
     omega (arith, field.high)
 
@@ -37,10 +37,10 @@ pub loop-i-preserved : goal.loop-i-preserved
 loop-i-preserved c =
     let s = c.args.s.now in
     let next = c.loop-i.next in
-    let z = c.in-Is.z in
-    let end = field_end z c.read_field-f.ensures c.in-Is.is in
+    let z = c.in-Some.z in
+    let end = field_end z c.read_field-f.ensures c.in-Some.is in
     let field = ended {m = 9} {s = s} {from = next} c.if-s-next.false end in
-    let number = ap (λ (t : ℕ). read_number (slice next t s)) end ∙ (sym c.read_field-f.ensures.is ∙ c.in-Is.is) in
+    let number = ap (λ (t : ℕ). read_number (slice next t s)) end ∙ (sym c.read_field-f.ensures.is ∙ c.in-Some.is) in
     let stored = number_stored s c.loop-i.into c.loop-i.i next (omega arith) c.if-s-next.false _ field z number in
     let same = back (number_is (slice next c.read_field-f.result.end s) z number).fits in
     (omega arith, simp length-set c.loop-i.invariant.1, rw same (sym stored ∙ c.loop-i.invariant.2))

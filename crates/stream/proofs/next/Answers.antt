@@ -1,4 +1,5 @@
 -- `stream::next` meets its contract: 5, then 7, then the line's own answer.
+use Rattle.std.specs.Prelude.{Some, None}
 use mathlib.Core.Path.{◌≡◌, refl, sym, ap, ◌∙◌}
 use mathlib.Core.Bool.{true, false}
 use mathlib.Core.List.{List}
@@ -11,7 +12,6 @@ use mir.Val.{SFits, to_z, of_z}
 use borrow.Author.Rules.{rules}
 use borrow.Author.Tests.{le-ltb}
 use Rattle.word.proofs.Fits.{back, sfits_mag}
-use Rattle.scan.specs.declared.Number.TheVariants.{Is, Not}
 use Rattle.text.specs.Line.{read_line, serial_of}
 use Rattle.text.specs.Answer.{Reply, refused_reply, reply_of, answer_room}
 use Rattle.text.proofs.Call.{Called}
@@ -20,15 +20,15 @@ use Rattle.stream.specs.declared.Answered.{Answered}
 use Rattle.stream.specs.Sheet.{reply_after, answer_line}
 use Rattle.stream.specs.Code.{Wrote}
 use Rattle.stream.proofs.next.Goals as goal
-use Rattle.stream.proofs.next.Goals.{After-counted-2, in-Is+else-serial-largest, in_default}
+use Rattle.stream.proofs.next.Goals.{After-counted-2, in-Some+else-serial-largest, in_default}
 
 -- ---- the machine's three ways
 module _ (s : State) (l : List ℕ) where
-  malformed : serial_of (read_line l) ≡ Not → answer_line s l ≡ record { bytes = (reply_of (read_line l)).bytes; state = s }
+  malformed : serial_of (read_line l) ≡ None → answer_line s l ≡ record { bytes = (reply_of (read_line l)).bytes; state = s }
   unfolding answer_line reply_after
   malformed e = rw e
 
-  module _ {serial : ℤ} (e : serial_of (read_line l) ≡ Is serial) where
+  module _ {serial : ℤ} (e : serial_of (read_line l) ≡ Some serial) where
     not_above : le_z serial s.largest ≡ true → answer_line s l ≡ record { bytes = (refused_reply serial (pos 7)).bytes; state = s }
     unfolding answer_line reply_after
     not_above h = rw (e, h)
@@ -64,8 +64,8 @@ returns c =
     let numbered : serial_of (read_line c.args.line.now) ≡ c.serial.result = sym (c.serial.ensures ∙ ap serial_of c.read_line-asked.ensures) in
     let fits : SFits w64 c.args.state.largest = search rules in
     elim c.match-serial.branch [
-      | in-Is+else-serial-largest w ↦
-          let k = w.in-Is in
+      | in-Some+else-serial-largest w ↦
+          let k = w.in-Some in
           let fit : SFits w64 k.serial = sfits_mag k.serial k.known_told-1-own.given.0.1 in
           let high : le_z k.serial c.args.state.largest ≡ false = rw (back fit, back fits) at w.if-serial-largest.false in
           rw (above c.args.state c.args.line.now (numbered ∙ k.is) high) (own c fit w.largest-is)
@@ -75,8 +75,8 @@ returns c =
 -- ---- turned away, where its serial is not above the largest
 pub returns-then-serial-largest : goal.returns-then-serial-largest
 returns-then-serial-largest c =
-    let k = c.in-Is in
-    let serial : serial_of (read_line c.args.line.now) ≡ Is k.serial = sym (c.serial.ensures ∙ ap serial_of c.read_line-asked.ensures) ∙ k.is in
+    let k = c.in-Some in
+    let serial : serial_of (read_line c.args.line.now) ≡ Some k.serial = sym (c.serial.ensures ∙ ap serial_of c.read_line-asked.ensures) ∙ k.is in
     let fit : SFits w64 k.serial = sfits_mag k.serial k.known_told-1-own.given.0.1 in
     let fits : SFits w64 c.args.state.largest = search rules in
     let low : le_z k.serial c.args.state.largest ≡ true = rw (back fit, back fits) at c.if-serial-largest.true in
