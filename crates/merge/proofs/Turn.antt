@@ -128,6 +128,15 @@ less : (s : List ℕ) → 0 < length s → length (behind s) < length s
 unfolding behind
 less s h = rw length-drop (omega arith)
 
+-- a step, from a choice on: behind the first sheet's line, written or passed by, or behind the second's
+module _ {c : Choice} {n : ℤ} {r : List ℕ} (s t : List ℕ) where
+  pub read_first : (c ≡ First n) ⊎ (c ≡ Passed n) → r ≡ unread c s t → r ≡ behind s
+  read_first (inl d) p = rw d at p
+  read_first (inr d) p = rw d at p
+
+  pub read_second : c ≡ Second n → r ≡ unread c s t → r ≡ behind t
+  read_second d p = rw d at p
+
 -- ---- THE REST to merge: of s and t, behind lines of the serials j and k, with the lines in front as the code holds them
 pub record Left (s t : List ℕ) (f g : Front) : Type 0 where
   pub j : ℤ
@@ -189,21 +198,16 @@ module _ {s t : List ℕ} {f g : Front} (l : Left s t f g) where
     pub second_less : {n : ℤ} {r : List ℕ} → c ≡ Second n → r ≡ behind t → length r < length t
     second_less d p = rw p (less t (some_bytes t (reads d)))
 
-    -- the first sheet's line, written or passed by
-    pub read_first : {n : ℤ} {r : List ℕ} → (c ≡ First n) ⊎ (c ≡ Passed n) → r ≡ unread c s t → r ≡ behind s
-    read_first (inl d) p = rw d at p
-    read_first (inr d) p = rw d at p
-
-    pub read_second : {n : ℤ} {r : List ℕ} → c ≡ Second n → r ≡ unread c s t → r ≡ behind t
-    read_second d p = rw d at p
-
     pub first_refusal : {n : ℤ} {r : List ℕ} → (c ≡ First n) ⊎ (c ≡ Passed n) → r ≡ unread c s t → (rest l).refusal ≡ (merge_rest n l.k r t).refusal
-    first_refusal (inl d) p = ap (λ (m : Merge). m.refusal) (first d (read_first (inl d) p))
-    first_refusal (inr d) p = ap (λ (m : Merge). m.refusal) (passed d (read_first (inr d) p))
+    first_refusal (inl d) p = ap (λ (m : Merge). m.refusal) (first d (read_first s t (inl d) p))
+    first_refusal (inr d) p = ap (λ (m : Merge). m.refusal) (passed d (read_first s t (inr d) p))
 
     pub second_refusal : {n : ℤ} {r : List ℕ} → c ≡ Second n → r ≡ unread c s t → (rest l).refusal ≡ (merge_rest l.j n s r).refusal
-    second_refusal d p = ap (λ (m : Merge). m.refusal) (second d (read_second d p))
+    second_refusal d p = ap (λ (m : Merge). m.refusal) (second d (read_second s t d p))
 
-    pub either_less : {n : ℤ} {r : List ℕ} → (c ≡ First n) ⊎ (c ≡ Passed n) → r ≡ unread c s t → length r < length s
-    either_less (inl d) p = first_less d (read_first (inl d) p)
-    either_less (inr d) p = passed_less d (read_first (inr d) p)
+    pub first_behind_less : {n : ℤ} {r : List ℕ} → (c ≡ First n) ⊎ (c ≡ Passed n) → r ≡ unread c s t → length r < length s
+    first_behind_less (inl d) p = first_less d (read_first s t (inl d) p)
+    first_behind_less (inr d) p = passed_less d (read_first s t (inr d) p)
+
+    pub second_behind_less : {n : ℤ} {r : List ℕ} → c ≡ Second n → r ≡ unread c s t → length r < length t
+    second_behind_less d p = second_less d (read_second s t d p)

@@ -147,7 +147,7 @@ fn decide<'a>(a: &'a [u8], b: &'a [u8]) -> Result<(), MergeError>
     let mut q = b;
     let mut f = read_front(p, 0);
     let mut g = read_front(q, 0);
-    loop {
+    'lines: loop {
         let c = choose(p, q, f, g);
         match &c {
             Choice::Done => return Ok(()),
@@ -219,7 +219,7 @@ fn write<'a>(a: &'a [u8], b: &'a [u8], out: &mut [u8]) -> usize
     let mut f = sure_front(p);
     let mut g = sure_front(q);
     let mut w: usize = 0;
-    while !p.is_empty() && !q.is_empty() {
+    'lines: while !p.is_empty() && !q.is_empty() {
         let c = choose(p, q, f, g);
         match c {
             Choice::Done | Choice::Refused(_) => return w,

@@ -6,29 +6,29 @@ use mir.Syntax.{w64}
 use mir.Val.{SFits}
 use Rattle.stream.specs.Machine.{lines}
 use Rattle.merge.specs.Merge.{Merge, merge}
-use Rattle.merge.proofs.Turn.{merge_rest, whole, held, behind_first, behind_second, done, refused, read_second, first_refusal, second_refusal, either_less, second_less}
+use Rattle.merge.proofs.Turn.{merge_rest, whole, held, behind_first, behind_second, done, refused, first_refusal, second_refusal, first_behind_less, second_behind_less}
 use Rattle.merge.proofs.decide.Goals as goal
 
-pub loop-e-init : goal.loop-e-init
+pub lines-init : goal.lines-init
 unfolding merge merge_rest
-loop-e-init c = (whole c.read_front-f.ensures c.read_front-g.ensures, refl)
+lines-init c = (whole c.read_front-f.ensures c.read_front-g.ensures, refl)
 
 pub returns-in-Done : goal.returns-in-Done
 returns-in-Done c =
-    let i = c.loop-e.invariant in
+    let i = c.lines.invariant in
     sym (ap (λ (m : Merge). m.refusal) (done i.0 c.choose-c.ensures c.in-Done.is)) ∙ i.1
 
 pub returns-in-Refused : goal.returns-in-Refused
 returns-in-Refused c =
-    let i = c.loop-e.invariant in
+    let i = c.lines.invariant in
     sym (ap (λ (m : Merge). m.refusal) (refused i.0 c.choose-c.ensures c.in-Refused.is)) ∙ i.1
 
-pub loop-e-smaller : goal.loop-e-smaller
-loop-e-smaller c = omega (arith, either_less c.loop-e.invariant.0 c.choose-c.ensures c.in-First.is c.step-p.ensures)
+pub lines-smaller : goal.lines-smaller
+lines-smaller c = omega (arith, first_behind_less c.lines.invariant.0 c.choose-c.ensures c.in-First.is c.step-p.ensures)
 
-pub loop-e-preserved : goal.loop-e-preserved
-loop-e-preserved c =
-    let i = c.loop-e.invariant in
+pub lines-preserved : goal.lines-preserved
+lines-preserved c =
+    let i = c.lines.invariant in
     let n = c.in-First.n in
     let r = c.step-p.result.now in
     let fits : SFits w64 n = search rules in (
@@ -36,14 +36,12 @@ loop-e-preserved c =
       sym (first_refusal i.0 c.choose-c.ensures c.in-First.is c.step-p.ensures) ∙ i.1,
     )
 
-pub loop-e-smaller-in-Second-1 : goal.loop-e-smaller-in-Second-1
-loop-e-smaller-in-Second-1 c =
-    let e = c.choose-c.ensures in
-    omega (arith, second_less c.loop-e.invariant.0 e c.in-Second.is (read_second c.loop-e.invariant.0 e c.in-Second.is c.step-q.ensures))
+pub lines-smaller-in-Second-1 : goal.lines-smaller-in-Second-1
+lines-smaller-in-Second-1 c = omega (arith, second_behind_less c.lines.invariant.0 c.choose-c.ensures c.in-Second.is c.step-q.ensures)
 
-pub loop-e-preserved-in-Second-1 : goal.loop-e-preserved-in-Second-1
-loop-e-preserved-in-Second-1 c =
-    let i = c.loop-e.invariant in
+pub lines-preserved-in-Second-1 : goal.lines-preserved-in-Second-1
+lines-preserved-in-Second-1 c =
+    let i = c.lines.invariant in
     let n = c.in-Second.n in
     let r = c.step-q.result.now in
     let fits : SFits w64 n = search rules in (
