@@ -1,9 +1,8 @@
 -- The record of an answer, a list of numbers: what stands in it, and a name for each place (01, Points and units).
-use Rattle.std.specs.Prelude.{List, [], ◌∷◌, ℕ, ℤ, pos, get_or}
+use Rattle.std.specs.Prelude.{List, [], ◌∷◌, ℕ, ℤ, pos, get_or, Ok, Err}
 use Rattle.point.specs.Point.{point, nought}
 use Rattle.answer.specs.declared.Figures.{Figures}
-use Rattle.answer.specs.declared.Answer.{Answer}
-use Rattle.answer.specs.declared.Answer.TheVariants.{Answered, Refused}
+use Rattle.answer.specs.Answer.{Answer}
 use Rattle.answer.specs.Refusal.{refusal_number}
 
 -- "the refusal number or 0, the two parts, k, q (both 0 for EXP) and the column"; 02, E5: EXP's k stands "in the controller's k field";
@@ -23,8 +22,8 @@ no_figures = record {
 }
 
 unfoldable pub record_of : Answer → List ℤ
-record_of (Answered f) = numbers (pos 0) f
-record_of (Refused r) = numbers (refusal_number r) no_figures
+record_of (Ok f) = numbers (pos 0) f
+record_of (Err r) = numbers (refusal_number r) no_figures
 
 -- ---- the places
 abbrev number_at : ℕ → List ℤ → ℤ

@@ -8,7 +8,7 @@ ghost use Rattle.answer.specs.Record.{numbers, record_of};
 use point::Point;
 
 // Why an input is turned away, with its number in 01.
-#[derive(Clone, Copy)]
+#[derive(Clone, Copy, Debug, PartialEq, Eq)]
 pub enum Refusal {
     // 1: the count of steps is out of range
     Steps,
@@ -32,17 +32,11 @@ pub struct Figures {
     pub remainder: Point,
 }
 
-#[derive(Clone, Copy)]
-pub enum Answer {
-    Answered(Figures),
-    Refused(Refusal),
-}
+impl From<Refusal> for i64 {
+    ghost from_gives = { λ r n. n ≡ refusal_number r };
 
-impl Refusal {
-    pub fn number(self) -> i64
-        ensures { result ≡ refusal_number self }
-    {
-        match self {
+    fn from(r: Refusal) -> i64 {
+        match r {
             Refusal::Steps => 1,
             Refusal::Exponent => 2,
             Refusal::Part => 3,
@@ -55,43 +49,32 @@ impl Refusal {
 fn numbers(refusal: i64, f: Figures) -> [i64; 8]
     ensures { result ≡ numbers refusal f }
 {
-    let value = f.value;
-    let x = value.x;
-    let y = value.y;
-    let binary_exponent = f.binary_exponent;
-    let quadrant = f.quadrant;
-    let error_bound = f.error_bound;
-    let remainder = f.remainder;
-    let left_x = remainder.x;
-    let left_y = remainder.y;
     [
         refusal,
-        x,
-        y,
-        binary_exponent,
-        quadrant,
-        error_bound,
-        left_x,
-        left_y,
+        f.value.x,
+        f.value.y,
+        f.binary_exponent,
+        f.quadrant,
+        f.error_bound,
+        f.remainder.x,
+        f.remainder.y,
     ]
 }
 
-impl Answer {
-    pub fn record(self) -> [i64; 8]
-        ensures { result ≡ record_of self }
-    {
-        match self {
-            Answer::Answered(f) => numbers(0, f),
-            Answer::Refused(r) => {
-                let none = Figures {
-                    value: Point::ZERO,
-                    binary_exponent: 0,
-                    quadrant: 0,
-                    error_bound: 0,
-                    remainder: Point::ZERO,
-                };
-                numbers(r.number(), none)
-            }
+pub fn record(answer: Result<Figures, Refusal>) -> [i64; 8]
+    ensures { result ≡ record_of answer }
+{
+    match answer {
+        Ok(f) => numbers(0, f),
+        Err(r) => {
+            let none = Figures {
+                value: Point::ZERO,
+                binary_exponent: 0,
+                quadrant: 0,
+                error_bound: 0,
+                remainder: Point::ZERO,
+            };
+            numbers(i64::from(r), none)
         }
     }
 }

@@ -1,15 +1,14 @@
 -- What a receiver can check of EXP's answer: the start times the exponential of the exponent is 2^k times the answer times the exponential
 -- of the remainder, nearly. At T terms, as in EXP's closeness: the exponential is S T/D T, and both sides are multiplied by the divisors
 -- 2^F, 2^down and D T.
-use Rattle.std.specs.Prelude.{ℕ, ◌^◌, ◌≤◌, ℤ, pos, nat_abs, ◌+ℤ◌, ◌*ℤ◌}
+use Rattle.std.specs.Prelude.{ℕ, ◌^◌, ◌≤◌, ℤ, pos, nat_abs, ◌+ℤ◌, ◌*ℤ◌, IfOk}
 use Rattle.algebra.specs.Gauss.{𝔾, gi, ◌-ᵍ◌, ◌*ᵍ◌, two, twoᵍ}
 use Rattle.algebra.specs.Order.{◌⩽◌}
 use Rattle.algebra.specs.Size.{abs, larger}
 use Rattle.series.specs.Series.{Sᵍ, Dᶻ}
 use Rattle.point.specs.Point.{gauss}
 use Rattle.answer.specs.declared.Figures.{Figures}
-use Rattle.answer.specs.declared.Answer.{Answer}
-use Rattle.answer.specs.declared.Answer.TheVariants.{Answered, Refused}
+use Rattle.answer.specs.Answer.{Answer}
 use Rattle.table_numbers.specs.Promise.{Constants}
 use Rattle.table_numbers.specs.Numbers48.{constants48}
 use Rattle.exponential.specs.Reduction.{reduction}
@@ -34,5 +33,4 @@ CertifiedFor F c n e s f = (T : ℕ) → least_terms F e ≤ T →
 
 -- every input that meets no refusal
 abbrev pub Certified : ℤ → ℤ → ℤ → ℤ → ℤ → Answer → Type 0
-Certified n ex ey sx sy (Answered f) = CertifiedFor 48 constants48 (nat_abs n) (gi ex ey) (gi sx sy) f
-Certified n ex ey sx sy (Refused r) = Unit {0}
+Certified n ex ey sx sy a = IfOk a (CertifiedFor 48 constants48 (nat_abs n) (gi ex ey) (gi sx sy))

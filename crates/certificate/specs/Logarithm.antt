@@ -1,14 +1,13 @@
 -- What a receiver can check of LOG's answer: the point is 2^k·i^q times the exponential of the answer times one and the remainder, nearly.
 -- At T terms, as in LOG's closeness: the exponential is S T/D T, and both sides are multiplied by the divisors 2^F and D T.
-use Rattle.std.specs.Prelude.{ℕ, ◌^◌, ◌≤◌, ℤ, pos, nat_abs, ◌+ℤ◌, ◌*ℤ◌}
+use Rattle.std.specs.Prelude.{ℕ, ◌^◌, ◌≤◌, ℤ, pos, nat_abs, ◌+ℤ◌, ◌*ℤ◌, IfOk}
 use Rattle.algebra.specs.Gauss.{𝔾, gi, ιᵍ, ◌+ᵍ◌, ◌-ᵍ◌, ◌*ᵍ◌, twoᵍ}
 use Rattle.algebra.specs.Order.{◌⩽◌}
 use Rattle.algebra.specs.Size.{abs, larger}
 use Rattle.series.specs.Series.{Sᵍ, Dᵍ, Dᶻ}
 use Rattle.point.specs.Point.{gauss, one}
 use Rattle.answer.specs.declared.Figures.{Figures}
-use Rattle.answer.specs.declared.Answer.{Answer}
-use Rattle.answer.specs.declared.Answer.TheVariants.{Answered, Refused}
+use Rattle.answer.specs.Answer.{Answer}
 use Rattle.logarithm.specs.Answer.{power, i^}
 
 -- 2^(F+k)·i^q times the exponential of the answer, times one and what is left, less the given point
@@ -27,5 +26,4 @@ pub record CertifiedAt (F N T : ℕ) (p : 𝔾) (f : Figures) : Type 0 where
 
 -- every input that meets no refusal
 abbrev pub Certified : ℤ → ℤ → ℤ → Answer → Type 0
-Certified n x y (Answered f) = (T : ℕ) → 24 ≤ T → CertifiedAt 48 (nat_abs n) T (gi x y) f
-Certified n x y (Refused r) = Unit {0}
+Certified n x y a = IfOk a (λ f. (T : ℕ) → 24 ≤ T → CertifiedAt 48 (nat_abs n) T (gi x y) f)

@@ -3,7 +3,7 @@
 use Rattle.std.specs.Prelude.{◌≡◌, List, [], ◌∷◌, map, ℕ, zero, suc, ◌+◌, ◌^◌, ℤ, pos, neg_ℤ, length}
 use Rattle.algebra.specs.Gauss.{𝔾, gi, ◌-ᵍ◌}
 use Rattle.point.specs.Point.{gauss, nought, one}
-use Rattle.answer.specs.declared.Answer.{Answer}
+use Rattle.answer.specs.Answer.{Answer}
 use Rattle.answer.specs.Record.{record_of, refusal_in, re_in, im_in, binary_exponent_in, quadrant_in, remainder_re_in, remainder_im_in}
 use Rattle.table_numbers.specs.declared.Entry.{Entry}
 use Rattle.table_numbers.specs.Rows.{number, reciprocal_at}

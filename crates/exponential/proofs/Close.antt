@@ -23,8 +23,8 @@ use Rattle.point.specs.Limits.{in_steps, in_parts}
 use Rattle.point.proofs.InLimits.{Counts, steps_say}
 use Rattle.answer.specs.declared.Refusal.{Refusal}
 use Rattle.answer.specs.declared.Refusal.TheVariants.{Steps, Exponent, Part}
-use Rattle.answer.specs.declared.Answer.{Answer}
-use Rattle.answer.specs.declared.Answer.TheVariants.{Answered, Refused}
+use Rattle.answer.specs.Answer.{Answer}
+use Rattle.std.specs.Prelude.{Ok, Err}
 use Rattle.answer.specs.Refusal.{unless}
 use Rattle.answer.specs.Remainder.{PartsBelow, RemainderBelow}
 use Rattle.answer.proofs.Remainder.{part_below}
@@ -48,20 +48,20 @@ use Rattle.exponential.proofs.Bound.{bound_enough}
 
 -- ---- when each answer is given
 module _ (F : ℕ) (n : ℤ) (e s : 𝔾) where
-  pub refused_steps : in_steps F 1 n ≡ false → (a : Answer) → unless_refused F n e s a ≡ Refused Steps
+  pub refused_steps : in_steps F 1 n ≡ false → (a : Answer) → unless_refused F n e s a ≡ Err Steps
   refused_steps x a = rw x
 
-  pub refused_exponent : in_steps F 1 n ≡ true → in_reach F e ≡ false → (a : Answer) → unless_refused F n e s a ≡ Refused Exponent
+  pub refused_exponent : in_steps F 1 n ≡ true → in_reach F e ≡ false → (a : Answer) → unless_refused F n e s a ≡ Err Exponent
   refused_exponent x y a = rw (x, y)
 
-  pub refused_part : in_steps F 1 n ≡ true → in_reach F e ≡ true → in_parts F s ≡ false → (a : Answer) → unless_refused F n e s a ≡ Refused Part
+  pub refused_part : in_steps F 1 n ≡ true → in_reach F e ≡ true → in_parts F s ≡ false → (a : Answer) → unless_refused F n e s a ≡ Err Part
   refused_part x y z a = rw (x, y, z)
 
   pub not_refused : Accepted F n e s → (a : Answer) → unless_refused F n e s a ≡ a
   not_refused p a = rw (p.steps, p.reach, p.start)
 
   -- what holds of every refusal, and of an answer where none is met, holds of the answer unless it is refused
-  pub tests_keep : (P : Answer → Type 0) (a : Answer) → ((r : Refusal) → ((b : Answer) → unless_refused F n e s b ≡ Refused r) → P (Refused r)) →
+  pub tests_keep : (P : Answer → Type 0) (a : Answer) → ((r : Refusal) → ((b : Answer) → unless_refused F n e s b ≡ Err r) → P (Err r)) →
       (Accepted F n e s → P a) → P (unless_refused F n e s a)
   tests_keep P a refused given = by (in_steps F 1 n) (in_reach F e) (in_parts F s) refl refl refl
     where
@@ -73,15 +73,15 @@ module _ (F : ℕ) (n : ℤ) (e s : 𝔾) where
       by true true true p q r = given (record { steps = p; reach = q; start = r })
 
 module _ (F : ℕ) (t : StepTable) (c : Constants) (n : ℤ) (e s : 𝔾) where
-  pub answered : Accepted F n e s → answer F t c n e s ≡ Answered (figures F t c (nat_abs n) e s)
+  pub answered : Accepted F n e s → answer F t c n e s ≡ Ok (figures F t c (nat_abs n) e s)
   unfolding answer
-  answered p = not_refused F n e s p (Answered (figures F t c (nat_abs n) e s))
+  answered p = not_refused F n e s p (Ok (figures F t c (nat_abs n) e s))
 
   -- what holds of every refusal, and of the figures where none is met, holds of the answer
-  pub answer_keeps : (P : Answer → Type 0) → ((r : Refusal) → P (Refused r)) →
-      (Accepted F n e s → P (Answered (figures F t c (nat_abs n) e s))) → P (answer F t c n e s)
+  pub answer_keeps : (P : Answer → Type 0) → ((r : Refusal) → P (Err r)) →
+      (Accepted F n e s → P (Ok (figures F t c (nat_abs n) e s))) → P (answer F t c n e s)
   unfolding answer
-  answer_keeps P refused given = tests_keep F n e s P (Answered (figures F t c (nat_abs n) e s)) (λ r _. refused r) given
+  answer_keeps P refused given = tests_keep F n e s P (Ok (figures F t c (nat_abs n) e s)) (λ r _. refused r) given
 
   -- "Inside the old rectangle each answer remains the same", whatever the constants are: the steps of the exponent itself, on the start
   -- itself, with its error bound, and k is 0; what is left over is of the exponent itself

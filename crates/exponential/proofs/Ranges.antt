@@ -17,8 +17,8 @@ use Rattle.algebra.proofs.Larger.{larger_parts, larger_le}
 use Rattle.point.specs.Point.{gauss}
 use Rattle.point.proofs.InLimits.{Counts, steps_say}
 use Rattle.answer.specs.declared.Figures.{Figures}
-use Rattle.answer.specs.declared.Answer.{Answer}
-use Rattle.answer.specs.declared.Answer.TheVariants.{Answered, Refused}
+use Rattle.answer.specs.Answer.{Answer}
+use Rattle.std.specs.Prelude.{IfOk}
 use Rattle.answer.proofs.Remainder.{remainder_size}
 use Rattle.table_numbers.specs.Promise.{StepTable, Constants}
 use Rattle.table_numbers.specs.Numbers48.{constants48}
@@ -51,8 +51,7 @@ pub record ExpRanges (F : ℕ) (n : ℤ) (f : Figures) : Type 0 where
 
 -- of an answer, if there is one
 abbrev pub Ranged : ℕ → ℤ → Answer → Type 0
-Ranged F n (Answered f) = ExpRanges F n f
-Ranged F n (Refused r) = Unit {0}
+Ranged F n a = IfOk a (ExpRanges F n)
 
 module _ (F : ℕ) (wide : 16 ≤ F) (narrow : F ≤ 48) (t : StepTable) (table : StepPromise F (F - 8) t) (c : Constants)
     (promise : ConstantsPromise F c) (n : ℤ) (e s : 𝔾) where

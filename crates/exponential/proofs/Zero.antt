@@ -18,7 +18,7 @@ use Rattle.point.specs.Point.{gauss, point, nought}
 use Rattle.point.specs.Step.{step}
 use Rattle.point.proofs.Rounding.{step_nought}
 use Rattle.answer.specs.declared.Figures.{Figures}
-use Rattle.answer.specs.declared.Answer.TheVariants.{Answered}
+use Rattle.std.specs.Prelude.{Ok}
 use Rattle.table_numbers.specs.Promise.{StepTable, Constants}
 use Rattle.table_numbers.specs.Numbers48.{constants48}
 use Rattle.table_numbers.specs.Table.{step_table}
@@ -84,7 +84,7 @@ module _ (F : ℕ) (t : StepTable) (c : Constants) where
 
 -- THE ANSWER to a zero start
 pub zero_answer : (n ex ey : ℤ) → Accepted 48 n (gi ex ey) nought →
-    exp_answer n ex ey (pos 0) (pos 0) ≡ Answered (zero_from 48 step_table constants48 (nat_abs n) (gi ex ey))
+    exp_answer n ex ey (pos 0) (pos 0) ≡ Ok (zero_from 48 step_table constants48 (nat_abs n) (gi ex ey))
 unfolding exp_answer
 zero_answer n ex ey a = answered 48 step_table constants48 n (gi ex ey) nought a
-    ∙ ap Answered (zero_start 48 step_table constants48 (nat_abs n) (gi ex ey))
+    ∙ ap Ok (zero_start 48 step_table constants48 (nat_abs n) (gi ex ey))

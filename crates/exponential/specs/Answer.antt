@@ -1,5 +1,5 @@
 -- EXP as 01 and 02 state it: the limits, the error bound, the answer for every input, and what the answer is close to.
-use Rattle.std.specs.Prelude.{cond, ℕ, suc, ◌^◌, ◌≤◌, ℤ, pos, negsuc, nat_abs, ◌+ℤ◌, ◌*ℤ◌}
+use Rattle.std.specs.Prelude.{cond, ℕ, suc, ◌^◌, ◌≤◌, ℤ, pos, negsuc, nat_abs, ◌+ℤ◌, ◌*ℤ◌, Ok, IfOk}
 use Rattle.algebra.specs.Gauss.{𝔾, gi, ◌-ᵍ◌, ◌*ᵍ◌, two, twoᵍ}
 use Rattle.algebra.specs.Order.{◌⩽◌}
 use Rattle.algebra.specs.Rounding.{ceiling}
@@ -9,8 +9,7 @@ use Rattle.point.specs.Point.{gauss}
 use Rattle.point.specs.Limits.{in_steps, in_parts}
 use Rattle.answer.specs.declared.Refusal.TheVariants.{Steps, Exponent, Part}
 use Rattle.answer.specs.declared.Figures.{Figures}
-use Rattle.answer.specs.declared.Answer.{Answer}
-use Rattle.answer.specs.declared.Answer.TheVariants.{Answered, Refused}
+use Rattle.answer.specs.Answer.{Answer}
 use Rattle.answer.specs.Refusal.{unless}
 use Rattle.table_numbers.specs.Promise.{StepTable, Constants}
 use Rattle.table_numbers.specs.Numbers48.{constants48}
@@ -67,7 +66,7 @@ module _ (F : ℕ) (t : StepTable) (c : Constants) where
   figures n e s = figures_from F t n (reduction F c e s)
 
   unfoldable pub answer : ℤ → 𝔾 → 𝔾 → Answer
-  answer n e s = unless_refused F n e s (Answered (figures (nat_abs n) e s))
+  answer n e s = unless_refused F n e s (Ok (figures (nat_abs n) e s))
 
 -- of exp (n, (ex, ey), (sx, sy))
 unfoldable pub exp_answer : ℤ → ℤ → ℤ → ℤ → ℤ → Answer
@@ -76,7 +75,7 @@ exp_answer n ex ey sx sy = answer 48 step_table constants48 n (gi ex ey) (gi sx 
 -- ---- before the first step, for a second engine (02, E9: "outside, the reduction comes before both"): the figures of n steps, with the state
 -- that the steps are given in the places of value and remainder
 unfoldable pub beginning : ℕ → Constants → ℤ → 𝔾 → 𝔾 → Answer
-beginning F c n e s = let r = reduction F c e s in unless_refused F n e s (Answered (figures_at (nat_abs n) r (begun r)))
+beginning F c n e s = let r = reduction F c e s in unless_refused F n e s (Ok (figures_at (nat_abs n) r (begun r)))
 
 -- of begin (n, (ex, ey), (sx, sy))
 unfoldable pub exp_beginning : ℤ → ℤ → ℤ → ℤ → ℤ → Answer
@@ -115,5 +114,4 @@ CloseFor F c n e s f = (T : ℕ) → least_terms F e ≤ T →
     CloseAt F n T f.binary_exponent e s (gauss (reduction F c e s).start) (gauss f.value)
 
 abbrev pub Close : ℤ → ℤ → ℤ → ℤ → ℤ → Answer → Type 0
-Close n ex ey sx sy (Answered f) = CloseFor 48 constants48 (nat_abs n) (gi ex ey) (gi sx sy) f
-Close n ex ey sx sy (Refused r) = Unit {0}
+Close n ex ey sx sy a = IfOk a (CloseFor 48 constants48 (nat_abs n) (gi ex ey) (gi sx sy))

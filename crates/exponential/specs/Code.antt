@@ -1,13 +1,11 @@
 -- Only the contracts of private functions cite this: what the tests of an input say, and what the reduction's division asks.
-use Rattle.std.specs.Prelude.{◌≡◌, true, ℕ, ℤ, pos, ◌*ℤ◌}
+use Rattle.std.specs.Prelude.{◌≡◌, true, ℕ, ℤ, pos, ◌*ℤ◌, Result, Err, MatchResult}
 use Rattle.algebra.specs.Gauss.{𝔾, two}
 use Rattle.algebra.specs.Order.{◌⩽◌}
 use Rattle.algebra.specs.Size.{Size}
 use Rattle.point.specs.Limits.{in_steps, in_parts}
-use Rattle.answer.specs.declared.Answer.{Answer}
-use Rattle.answer.specs.declared.Answer.TheVariants.{Refused}
-use Rattle.exponential.specs.declared.Verdict.{Verdict}
-use Rattle.exponential.specs.declared.Verdict.TheVariants.{Passed, Failed}
+use Rattle.answer.specs.declared.Refusal.{Refusal}
+use Rattle.answer.specs.Answer.{Answer}
 use Rattle.exponential.specs.Reduction.{in_reach}
 use Rattle.exponential.specs.Answer.{unless_refused}
 
@@ -17,10 +15,9 @@ pub record Accepted (F : ℕ) (n : ℤ) (e s : 𝔾) : Type 0 where
   pub reach : in_reach F e ≡ true
   pub start : in_parts F s ≡ true
 
--- a verdict that is right: what failed is refused, whatever else would be answered
-abbrev pub Right : ℕ → ℤ → 𝔾 → 𝔾 → Verdict → Type 0
-Right F n e s Passed = Accepted F n e s
-Right F n e s (Failed r) = (a : Answer) → unless_refused F n e s a ≡ Refused r
+-- tests that are right: what fails them is refused, whatever else would be answered
+abbrev pub Right : ℕ → ℤ → 𝔾 → 𝔾 → Result (Unit {0}) Refusal → Type 0
+Right F n e s r = MatchResult r (λ _. Accepted F n e s) (λ x. (a : Answer) → unless_refused F n e s a ≡ Err x)
 
 -- x is at most 16 m in size
 pub record NearestPre (x m : ℤ) : Type 0 where

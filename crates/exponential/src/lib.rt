@@ -9,30 +9,18 @@ ghost use Rattle.answer.specs.Remainder.{RemainderBelow};
 ghost use Rattle.exponential.specs.Answer.{error_bound_of, exp_answer, exp_beginning, Close};
 ghost use Rattle.exponential.specs.Code.{Right};
 
-use answer::{Answer, Figures, Refusal};
+use answer::{Figures, Refusal};
 use iteration::{Mode, State};
 use point::Point;
 
 mod reduction;
-
-// The absolute value.
-fn size(x: i64) -> i64
-    requires { Size x (two 59) }
-    ensures { result ≡ abs x }
-{
-    if x < 0 { -x } else { x }
-}
 
 // The larger part in size.
 fn larger_part(p: Point) -> i64
     requires { Parts (gauss p) (two 59) }
     ensures { result ≡ larger (gauss p) }
 {
-    let x = p.x;
-    let y = p.y;
-    let a = size(x);
-    let b = size(y);
-    if b < a { a } else { b }
+    p.x.abs().max(p.y.abs())
 }
 
 // 8 M / 2^n rounded up, plus 2 n: M is the larger part in size of the start that the steps are given.
@@ -47,40 +35,30 @@ fn error_bound(n: usize, s: Point) -> i64
     share - down
 }
 
-// What the tests of an input say.
-#[derive(Clone, Copy)]
-enum Verdict {
-    Passed,
-    Failed(Refusal),
-}
-
 // The tests, in the order of their refusals.
-fn test(n: i64, exponent: Point, start: Point) -> Verdict
+fn test(n: i64, exponent: Point, start: Point) -> Result<(), Refusal>
     ensures { Right 48 n (gauss exponent) (gauss start) result }
 {
     if !point::is_between(1, 40, n) {
-        return Verdict::Failed(Refusal::Steps);
+        return Err(Refusal::Steps);
     }
     if !reduction::is_in_reach(exponent) {
-        return Verdict::Failed(Refusal::Exponent);
+        return Err(Refusal::Exponent);
     }
     if !start.is_in_parts() {
-        return Verdict::Failed(Refusal::Part);
+        return Err(Refusal::Part);
     }
-    Verdict::Passed
+    Ok(())
 }
 
 // The start times the exponential of the exponent, by n steps: value times 2^binary_exponent. What the steps leave of the exponent that they
 // are given is the remainder.
-pub fn exp(n: i64, exponent: Point, start: Point) -> Answer
+pub fn exp(n: i64, exponent: Point, start: Point) -> Result<Figures, Refusal>
     ensures answer { result ≡ exp_answer n exponent.x exponent.y start.x start.y }
     ensures close { Close n exponent.x exponent.y start.x start.y result }
     ensures remainder { RemainderBelow 48 n result }
 {
-    let verdict = test(n, exponent, start);
-    if let Verdict::Failed(r) = verdict {
-        return Answer::Refused(r);
-    }
+    test(n, exponent, start)?;
     let steps = n as usize;
     let given = reduction::reduce(exponent, start);
     let s = given.start;
@@ -95,7 +73,7 @@ pub fn exp(n: i64, exponent: Point, start: Point) -> Answer
     let left_y = left.y;
     let binary_exponent = given.binary_exponent;
     let error_bound = error_bound(steps, s);
-    Answer::Answered(Figures {
+    Ok(Figures {
         value: Point { x, y },
         binary_exponent,
         quadrant: 0,
@@ -109,19 +87,16 @@ pub fn exp(n: i64, exponent: Point, start: Point) -> Answer
 
 // EXP before its first step, for a second engine: the start and the exponent that the steps are given stand where the value and the remainder
 // will.
-pub fn begin(n: i64, exponent: Point, start: Point) -> Answer
+pub fn begin(n: i64, exponent: Point, start: Point) -> Result<Figures, Refusal>
     ensures { result ≡ exp_beginning n exponent.x exponent.y start.x start.y }
 {
-    let verdict = test(n, exponent, start);
-    if let Verdict::Failed(r) = verdict {
-        return Answer::Refused(r);
-    }
+    test(n, exponent, start)?;
     let given = reduction::reduce(exponent, start);
     let value = given.start;
     let remainder = given.exponent;
     let doublings = given.binary_exponent;
     let bound = error_bound(n as usize, value);
-    Answer::Answered(Figures {
+    Ok(Figures {
         value,
         binary_exponent: doublings,
         quadrant: 0,

@@ -31,8 +31,8 @@ use Rattle.point.proofs.InLimits.{Counts, steps_say, parts_say}
 use Rattle.answer.specs.declared.Figures.{Figures}
 use Rattle.answer.specs.declared.Refusal.{Refusal}
 use Rattle.answer.specs.declared.Refusal.TheVariants.{Steps, Part, Zero}
-use Rattle.answer.specs.declared.Answer.{Answer}
-use Rattle.answer.specs.declared.Answer.TheVariants.{Answered, Refused}
+use Rattle.answer.specs.Answer.{Answer}
+use Rattle.std.specs.Prelude.{Ok, Err}
 use Rattle.answer.specs.Remainder.{PartsBelow, RemainderBelow}
 use Rattle.answer.proofs.Tests.{unless_keeps}
 use Rattle.answer.proofs.Remainder.{part_below}
@@ -65,25 +65,25 @@ zero_says p e = ⊎_elim (λ h. h) (λ h. absurd (subst T (sym (zero h) ∙ e) t
 
 -- ---- when each answer is given
 module _ (F : ℕ) (steps : StepTable) (logs : ReciprocalTable) (n : ℤ) (p : 𝔾) where
-  pub refused_steps : in_steps F 3 n ≡ false → answer F steps logs n p ≡ Refused Steps
+  pub refused_steps : in_steps F 3 n ≡ false → answer F steps logs n p ≡ Err Steps
   unfolding answer
   refused_steps a = rw a
 
-  pub refused_part : in_steps F 3 n ≡ true → in_parts F p ≡ false → answer F steps logs n p ≡ Refused Part
+  pub refused_part : in_steps F 3 n ≡ true → in_parts F p ≡ false → answer F steps logs n p ≡ Err Part
   unfolding answer
   refused_part a b = rw (a, b)
 
-  pub refused_zero : in_steps F 3 n ≡ true → in_parts F p ≡ true → is_zero p ≡ true → answer F steps logs n p ≡ Refused Zero
+  pub refused_zero : in_steps F 3 n ≡ true → in_parts F p ≡ true → is_zero p ≡ true → answer F steps logs n p ≡ Err Zero
   unfolding answer
   refused_zero a b c = rw (a, b, c)
 
-  pub answered : Accepted F n p → answer F steps logs n p ≡ Answered (figures F steps logs (nat_abs n) p)
+  pub answered : Accepted F n p → answer F steps logs n p ≡ Ok (figures F steps logs (nat_abs n) p)
   unfolding answer
   answered a = rw (a.steps, a.parts, a.nonzero)
 
   -- what holds of every refusal, and of the figures where none is met, holds of the answer
-  pub answer_keeps : (P : Answer → Type 0) → ((r : Refusal) → P (Refused r)) →
-      (Accepted F n p → P (Answered (figures F steps logs (nat_abs n) p))) → P (answer F steps logs n p)
+  pub answer_keeps : (P : Answer → Type 0) → ((r : Refusal) → P (Err r)) →
+      (Accepted F n p → P (Ok (figures F steps logs (nat_abs n) p))) → P (answer F steps logs n p)
   unfolding answer
   answer_keeps P refused given =
       unless_keeps P (in_steps F 3 n) Steps _ (refused Steps)

@@ -18,8 +18,8 @@ use Rattle.algebra.proofs.Larger.{larger_parts, larger_le}
 use Rattle.point.specs.Point.{gauss}
 use Rattle.point.proofs.InLimits.{Counts, steps_say, parts_say}
 use Rattle.answer.specs.declared.Figures.{Figures}
-use Rattle.answer.specs.declared.Answer.{Answer}
-use Rattle.answer.specs.declared.Answer.TheVariants.{Answered, Refused}
+use Rattle.answer.specs.Answer.{Answer}
+use Rattle.std.specs.Prelude.{IfOk}
 use Rattle.answer.proofs.Remainder.{remainder_size}
 use Rattle.table_numbers.specs.Promise.{StepTable, ReciprocalTable}
 use Rattle.table_numbers.specs.Table.{step_table, reciprocal_table}
@@ -49,8 +49,7 @@ pub record LogRanges (F : ℕ) (n : ℤ) (p : 𝔾) (f : Figures) : Type 0 where
 
 -- of an answer, if there is one
 abbrev pub Ranged : ℕ → ℤ → 𝔾 → Answer → Type 0
-Ranged F n p (Answered f) = LogRanges F n p f
-Ranged F n p (Refused r) = Unit {0}
+Ranged F n p a = IfOk a (LogRanges F n p)
 
 module _ (F : ℕ) (wide : 11 ≤ F) (narrow : F ≤ 48) (steps : StepTable) (logs : ReciprocalTable)
     (entries : StepPromise F (F - 8) steps) (reciprocals : ReciprocalPromise F logs) (n : ℤ) (p : 𝔾) where

@@ -1,5 +1,5 @@
 -- LOG as 01 states it: the limits, the error bound, the steps, the answer for every input, and what it is close to.
-use Rattle.std.specs.Prelude.{Bool, not, ℕ, suc, ◌-◌, ◌^◌, ◌≤◌, ℤ, pos, negsuc, nat_abs, ◌+ℤ◌, ◌*ℤ◌}
+use Rattle.std.specs.Prelude.{Bool, not, ℕ, suc, ◌-◌, ◌^◌, ◌≤◌, ℤ, pos, negsuc, nat_abs, ◌+ℤ◌, ◌*ℤ◌, Ok, IfOk}
 use Rattle.algebra.specs.Gauss.{◌^ᵍ◌, 𝔾, gi, ιᵍ, iᵍ, negᵍ, ◌-ᵍ◌, ◌*ᵍ◌, two}
 use Rattle.algebra.specs.Order.{◌⩽◌}
 use Rattle.algebra.specs.Rounding.{ceiling}
@@ -9,8 +9,7 @@ use Rattle.point.specs.Point.{gauss, point, one}
 use Rattle.point.specs.Limits.{in_steps, in_box, in_parts}
 use Rattle.answer.specs.declared.Refusal.TheVariants.{Steps, Part, Zero}
 use Rattle.answer.specs.declared.Figures.{Figures}
-use Rattle.answer.specs.declared.Answer.{Answer}
-use Rattle.answer.specs.declared.Answer.TheVariants.{Answered, Refused}
+use Rattle.answer.specs.Answer.{Answer}
 use Rattle.answer.specs.Refusal.{unless}
 use Rattle.table_numbers.specs.Promise.{StepTable, ReciprocalTable}
 use Rattle.table_numbers.specs.Table.{step_table, reciprocal_table}
@@ -52,7 +51,7 @@ module _ (F : ℕ) (steps : StepTable) (logs : ReciprocalTable) where
 
   -- "first 1, N outside 3 to 40; then 3, a part over 2^58 in size; then 4, the zero point"
   unfoldable pub answer : ℤ → 𝔾 → Answer
-  answer n p = unless (in_steps F 3 n) Steps (unless (in_parts F p) Part (unless (not (is_zero p)) Zero (Answered (figures (nat_abs n) p))))
+  answer n p = unless (in_steps F 3 n) Steps (unless (in_parts F p) Part (unless (not (is_zero p)) Zero (Ok (figures (nat_abs n) p))))
 
 -- of log (n, (x, y))
 unfoldable pub log_answer : ℤ → ℤ → ℤ → Answer
@@ -84,5 +83,4 @@ pub record CloseAt (F N T : ℕ) (p : 𝔾) (f : Figures) : Type 0 where
 
 -- "For every T from 24 on, and every input that meets no refusal"
 abbrev pub Close : ℤ → ℤ → ℤ → Answer → Type 0
-Close n x y (Answered f) = (T : ℕ) → 24 ≤ T → CloseAt 48 (nat_abs n) T (gi x y) f
-Close n x y (Refused r) = Unit {0}
+Close n x y a = IfOk a (λ f. (T : ℕ) → 24 ≤ T → CloseAt 48 (nat_abs n) T (gi x y) f)

@@ -9,7 +9,7 @@ ghost use Rattle.answer.specs.Remainder.{RemainderBelow};
 ghost use Rattle.logarithm.specs.Answer.{log_answer, Close};
 ghost use Rattle.logarithm.specs.Code.{BoundPre, bound_at, figures_of, Accepted};
 
-use answer::{Answer, Figures, Refusal};
+use answer::{Figures, Refusal};
 use iteration::Mode;
 use point::Point;
 
@@ -74,19 +74,19 @@ fn accepted(n: usize, p: Point) -> Figures
     }
 }
 
-pub fn log(n: i64, p: Point) -> Answer
+pub fn log(n: i64, p: Point) -> Result<Figures, Refusal>
     ensures answer { result ≡ log_answer n p.x p.y }
     ensures close { Close n p.x p.y result }
     ensures remainder { RemainderBelow 48 n result }
 {
     if !point::is_between(3, 40, n) {
-        return Answer::Refused(Refusal::Steps);
+        return Err(Refusal::Steps);
     }
     if !p.is_in_parts() {
-        return Answer::Refused(Refusal::Part);
+        return Err(Refusal::Part);
     }
     if p.is_in_box(0, 0, 0, 0) {
-        return Answer::Refused(Refusal::Zero);
+        return Err(Refusal::Zero);
     }
-    Answer::Answered(accepted(n as usize, p))
+    Ok(accepted(n as usize, p))
 }

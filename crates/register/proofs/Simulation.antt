@@ -20,8 +20,8 @@ use Rattle.point.specs.Point.{gauss}
 use Rattle.point.specs.Step.{step}
 use Rattle.point.specs.Digit.{IsDigit}
 use Rattle.point.proofs.InLimits.{steps_say}
-use Rattle.answer.specs.declared.Answer.{Answer}
-use Rattle.answer.specs.declared.Answer.TheVariants.{Answered}
+use Rattle.answer.specs.Answer.{Answer}
+use Rattle.std.specs.Prelude.{Ok}
 use Rattle.table_numbers.specs.Promise.{StepTable, Constants, look}
 use Rattle.table_numbers.specs.Numbers48.{constants48}
 use Rattle.table_numbers.specs.Table.{step_table}
@@ -134,15 +134,15 @@ same_figures F t n r h = ap (figures_at n r) (ap (read_back n) (same_ended F t n
 -- ---- THE LAW: "the same .. answers and remainders as the first for each accepted input and refuses the same inputs with the same numbers"
 pub same_answer_by : (F : ℕ) (t : StepTable) (c : Constants) (n : ℤ) (e s : 𝔾) → register_answer_by F t c n e s ≡ answer F t c n e s
 unfolding register_answer_by answer
-same_answer_by F t c n e s = tests_keep F n e s (λ a. a ≡ unless_refused F n e s first) (Answered (register_figures F t (nat_abs n) r))
+same_answer_by F t c n e s = tests_keep F n e s (λ a. a ≡ unless_refused F n e s first) (Ok (register_figures F t (nat_abs n) r))
     (λ x refused. sym (refused first))
-    (λ p. ap Answered (same_figures F t (nat_abs n) r (few p)) ∙ sym (not_refused F n e s p first))
+    (λ p. ap Ok (same_figures F t (nat_abs n) r (few p)) ∙ sym (not_refused F n e s p first))
   where
     r : Reduced
     r = reduction F c e s
 
     first : Answer
-    first = Answered (figures F t c (nat_abs n) e s)
+    first = Ok (figures F t c (nat_abs n) e s)
 
     few : Accepted F n e s → nat_abs n + 4 ≤ F
     few p = let k = steps_say F 1 n p.steps in omega (arith, k.at_least, k.at_most)

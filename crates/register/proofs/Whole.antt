@@ -11,8 +11,8 @@ use Rattle.algebra.proofs.Linear.{lin, ◌&◌, none}
 use Rattle.algebra.proofs.Parts.{parts_weaken}
 use Rattle.algebra.proofs.Power.{two_mono}
 use Rattle.point.specs.Point.{gauss}
-use Rattle.answer.specs.declared.Answer.{Answer}
-use Rattle.answer.specs.declared.Answer.TheVariants.{Answered, Refused}
+use Rattle.answer.specs.Answer.{Answer}
+use Rattle.std.specs.Prelude.{Ok, Err}
 use Rattle.answer.specs.declared.Refusal.{Refusal}
 use Rattle.answer.specs.declared.Figures.{Figures}
 use Rattle.answer.specs.Remainder.{RemainderBelow}
@@ -40,17 +40,17 @@ module _ (F : ℕ) (c : Constants) (n : ℤ) (e s : 𝔾) where
 
   -- what an answer before the first step says
   abbrev Says : Answer → Type 0
-  Says (Answered f) = Accepted F n e s × (f ≡ figures_at (nat_abs n) r (begun r))
-  Says (Refused x) = (a : Answer) → unless_refused F n e s a ≡ Refused x
+  Says (Ok f) = Accepted F n e s × (f ≡ figures_at (nat_abs n) r (begun r))
+  Says (Err x) = (a : Answer) → unless_refused F n e s a ≡ Err x
 
   says : Says (beginning F c n e s)
   unfolding beginning
-  says = tests_keep F n e s Says (Answered (figures_at (nat_abs n) r (begun r))) (λ x refused. refused) (λ p. (p, refl))
+  says = tests_keep F n e s Says (Ok (figures_at (nat_abs n) r (begun r))) (λ x refused. refused) (λ p. (p, refl))
 
-  pub begun_says : {f : Figures} → beginning F c n e s ≡ Answered f → Accepted F n e s × (f ≡ figures_at (nat_abs n) r (begun r))
+  pub begun_says : {f : Figures} → beginning F c n e s ≡ Ok f → Accepted F n e s × (f ≡ figures_at (nat_abs n) r (begun r))
   begun_says b = subst Says b says
 
-  pub refused_says : {x : Refusal} → beginning F c n e s ≡ Refused x → (a : Answer) → unless_refused F n e s a ≡ Refused x
+  pub refused_says : {x : Refusal} → beginning F c n e s ≡ Err x → (a : Answer) → unless_refused F n e s a ≡ Err x
   refused_says b = subst Says b says
 
 module _ (F : ℕ) (wide : 16 ≤ F) (narrow : F ≤ 48) (t : StepTable) (table : StepPromise F (F - 8) t)
@@ -80,26 +80,26 @@ module _ (F : ℕ) (wide : 16 ≤ F) (narrow : F ≤ 48) (t : StepTable) (table 
       }
 
   -- what was begun fits
-  pub begun_fits : {f : Figures} → beginning F c n e s ≡ Answered f → TakePre F t (nat_abs n) f
+  pub begun_fits : {f : Figures} → beginning F c n e s ≡ Ok f → TakePre F t (nat_abs n) f
   begun_fits b = let h = begun_says F c n e s b in subst (TakePre F t (nat_abs n)) (sym h.1) (fits h.0)
 
   -- and gives the answer
-  pub begun_gives : {f : Figures} → beginning F c n e s ≡ Answered f → Answered (taken F t (nat_abs n) f) ≡ register_answer_by F t c n e s
+  pub begun_gives : {f : Figures} → beginning F c n e s ≡ Ok f → Ok (taken F t (nat_abs n) f) ≡ register_answer_by F t c n e s
   unfolding register_answer_by
   begun_gives b = let h = begun_says F c n e s b in
-      ap (λ f. Answered (taken F t (nat_abs n) f)) h.1 ∙ sym (not_refused F n e s h.0 (Answered (register_figures F t (nat_abs n) g)))
+      ap (λ f. Ok (taken F t (nat_abs n) f)) h.1 ∙ sym (not_refused F n e s h.0 (Ok (register_figures F t (nat_abs n) g)))
 
-  pub refused_gives : {x : Refusal} → beginning F c n e s ≡ Refused x → Refused x ≡ register_answer_by F t c n e s
+  pub refused_gives : {x : Refusal} → beginning F c n e s ≡ Err x → Err x ≡ register_answer_by F t c n e s
   unfolding register_answer_by
-  refused_gives b = sym (refused_says F c n e s b (Answered (register_figures F t (nat_abs n) g)))
+  refused_gives b = sym (refused_says F c n e s b (Ok (register_figures F t (nat_abs n) g)))
 
 -- ---- at the width 48, with no hypothesis left
 module _ (n ex ey sx sy : ℤ) where
-  pub begun_accepted : {f : Figures} → exp_beginning n ex ey sx sy ≡ Answered f → Accepted 48 n (gi ex ey) (gi sx sy)
+  pub begun_accepted : {f : Figures} → exp_beginning n ex ey sx sy ≡ Ok f → Accepted 48 n (gi ex ey) (gi sx sy)
   unfolding exp_beginning
   begun_accepted b = (begun_says 48 constants48 n (gi ex ey) (gi sx sy) b).0
 
-  pub begun_fits_48 : {f : Figures} → exp_beginning n ex ey sx sy ≡ Answered f → TakePre 48 step_table (nat_abs n) f
+  pub begun_fits_48 : {f : Figures} → exp_beginning n ex ey sx sy ≡ Ok f → TakePre 48 step_table (nat_abs n) f
   unfolding exp_beginning
   begun_fits_48 b = begun_fits 48 (omega arith) (omega arith) step_table step_promise constants48 constants_promise n (gi ex ey) (gi sx sy) b
 
@@ -109,11 +109,11 @@ module _ (n ex ey sx sy : ℤ) where
   unfolding register_answer
   meets h = (h, settled n ex ey sx sy (sym (same_answer_by 48 step_table constants48 n (gi ex ey) (gi sx sy)) ∙ sym h))
 
-  pub begun_gives_48 : {f : Figures} → exp_beginning n ex ey sx sy ≡ Answered f →
-      Answered (taken 48 step_table (nat_abs n) f) ≡ register_answer n ex ey sx sy
+  pub begun_gives_48 : {f : Figures} → exp_beginning n ex ey sx sy ≡ Ok f →
+      Ok (taken 48 step_table (nat_abs n) f) ≡ register_answer n ex ey sx sy
   unfolding exp_beginning register_answer
   begun_gives_48 b = begun_gives 48 (omega arith) (omega arith) step_table step_promise constants48 constants_promise n (gi ex ey) (gi sx sy) b
 
-  pub refused_gives_48 : {x : Refusal} → exp_beginning n ex ey sx sy ≡ Refused x → Refused x ≡ register_answer n ex ey sx sy
+  pub refused_gives_48 : {x : Refusal} → exp_beginning n ex ey sx sy ≡ Err x → Err x ≡ register_answer n ex ey sx sy
   unfolding exp_beginning register_answer
   refused_gives_48 b = refused_gives 48 (omega arith) (omega arith) step_table step_promise constants48 constants_promise n (gi ex ey) (gi sx sy) b

@@ -16,7 +16,7 @@ ghost use Rattle.register.specs.Register.{register_select, register_run};
 ghost use Rattle.register.specs.Answer.{register_answer};
 ghost use Rattle.register.specs.Code.{doubled_less, LessPre, StepPre, step_of, Fits, TakePre, taken};
 
-use answer::{Answer, Figures};
+use answer::{Figures, Refusal};
 use iteration::State;
 use point::{Digit, Point};
 use table_numbers::Entry;
@@ -133,15 +133,12 @@ fn take(n: usize, f: Figures) -> Figures
 // ---- the whole
 
 // EXP's answer as a register makes it: that of `exponential::exp`, for every input.
-pub fn exp(n: i64, exponent: Point, start: Point) -> Answer
+pub fn exp(n: i64, exponent: Point, start: Point) -> Result<Figures, Refusal>
     ensures register { result ≡ register_answer n exponent.x exponent.y start.x start.y }
     ensures answer { result ≡ exp_answer n exponent.x exponent.y start.x start.y }
     ensures close { Close n exponent.x exponent.y start.x start.y result }
     ensures remainder { RemainderBelow 48 n result }
 {
-    let begun = exponential::begin(n, exponent, start);
-    match begun {
-        Answer::Answered(f) => Answer::Answered(take(n as usize, f)),
-        Answer::Refused(r) => Answer::Refused(r),
-    }
+    let f = exponential::begin(n, exponent, start)?;
+    Ok(take(n as usize, f))
 }

@@ -8,7 +8,7 @@ use Rattle.word.proofs.Fits.{back}
 use Rattle.point.specs.Point.{gauss}
 use Rattle.point.specs.Limits.{in_steps, in_parts}
 use Rattle.point.proofs.InLimits.{steps_say, steps_cast}
-use Rattle.answer.specs.declared.Answer.TheVariants.{Answered}
+use Rattle.std.specs.Prelude.{Ok}
 use Rattle.table_numbers.specs.Table.{step_table, reciprocal_table}
 use Rattle.logarithm.specs.Answer.{is_zero}
 use Rattle.logarithm.specs.Code.{Accepted, figures_of}
@@ -80,5 +80,5 @@ returns c =
     let both = (let s = c.before.before.before.before.before.before.before in
     let a = s.args in
     settled a.n a.p.x a.p.y (answered 48 step_table reciprocal_table a.n (gauss a.p) (allowed c.before)
-    ∙ sym (ap Answered (c.accepted.ensures ∙ ap (λ n. figures_of (nat_abs n) a.p) (back s.ranges.n))))) in
+    ∙ sym (ap Ok (c.accepted.ensures ∙ ap (λ n. figures_of (nat_abs n) a.p) (back s.ranges.n))))) in
     record { answer = both.0; close = both.1.0; remainder = both.1.1 }
