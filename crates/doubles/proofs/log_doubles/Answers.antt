@@ -1,5 +1,5 @@
 -- `doubles::log_doubles` meets its contract.
-use Rattle.std.proofs.Common.{◌≡◌, sym, ap, ◌∙◌, ap₂, rules}
+use Rattle.std.proofs.Common.{◌≡◌, sym, ap, ◌∙◌, ap₂, rules, arith}
 use mir.Syntax.{w64}
 use mir.Val.{SFits}
 use Rattle.std.specs.Prelude.{Ok}
@@ -17,13 +17,19 @@ logged c = sym (rw (back c.ranges.n) at c.in_ok-value.ensures.answer)
 
 pub write_part-requires : goal.write_part-requires
 write_part-requires c =
-    let fits : SFits w64 c.in_ok-value.field-0.value.x = search rules in
-    rw (back fits) (log_small c.args.n c.args.p.x c.args.p.y (logged (goal.at.write_part-requires c).In_ok-value)).x
+    let v = c.in_ok-value.field-0.value in
+    let x : SFits w64 v.x = search rules in
+    let y : SFits w64 v.y = search rules in
+    let small = log_small c.args.n c.args.p.x c.args.p.y (logged (goal.at.write_part-requires c).In_ok-value) in
+    simp (back x, back y) (omega (arith, small.x, small.y))
 
 pub write_part-requires-2 : goal.write_part-requires-2
 write_part-requires-2 c =
-    let fits : SFits w64 c.in_ok-value.field-0.value.y = search rules in
-    rw (back fits) (log_small c.args.n c.args.p.x c.args.p.y (logged (goal.at.write_part-requires-2 c).In_ok-value)).y
+    let v = c.in_ok-value.field-0.value in
+    let x : SFits w64 v.x = search rules in
+    let y : SFits w64 v.y = search rules in
+    let small = log_small c.args.n c.args.p.x c.args.p.y (logged (goal.at.write_part-requires-2 c).In_ok-value) in
+    simp (back x, back y) (omega (arith, small.x, small.y))
 
 pub returns-clause-kept : goal.returns-clause-kept
 returns-clause-kept c =
