@@ -16,7 +16,7 @@ use Rattle.text.specs.Line.{read_line, serial_of}
 use Rattle.text.specs.Answer.{Reply, refused_reply, reply_of, answer_room}
 use Rattle.text.proofs.Call.{Called}
 use Rattle.stream.specs.declared.State.{State}
-use Rattle.stream.specs.declared.Ok.{Ok}
+use Rattle.stream.specs.declared.Answered.{Answered}
 use Rattle.stream.specs.Sheet.{reply_after, answer_line}
 use Rattle.stream.specs.Code.{Wrote}
 use Rattle.stream.proofs.next.Goals as goal
@@ -38,7 +38,7 @@ module _ (s : State) (l : List ℕ) where
     above h = rw (e, h)
 
 -- what a call of a line wrote, with room for it; serials as the code holds them
-wrote : (a : Reply) {largest refusal x : ℤ} {w : ℕ} {b b' : List ℕ} {r : Ok} → answer_room ≤ length b → Called a b b' refusal w →
+wrote : (a : Reply) {largest refusal x : ℤ} {w : ℕ} {b b' : List ℕ} {r : Answered} → answer_room ≤ length b → Called a b b' refusal w →
     SFits w64 largest → x ≡ to_z w64 (of_z w64 largest) → r ≡ record { state = record { largest = x }; written = w } →
     Wrote (record { bytes = a.bytes; state = record { largest = largest } }) b b' r
 wrote a {b = b} room h f n e =
