@@ -156,7 +156,9 @@ const NO_STEP: [i64; 6] = [0, 0, 0, 0, 0, 0];
             out.append(f"\nconst {name}: [i64; 6] = [\n{numbers}];\n")
     arms = "".join(f"        {3 * n + place} => {step_name(n, place)},\n" for n in range(1, WIDTH - 7) for place in range(3))
     out.append(f"""
-// Three rows to an n. A `match` over named rows becomes a read-only table, where a constant array would be written out at each call.
+// Three rows to an n. A `match` over named rows becomes a read-only table, where a constant array would be written out at each call. It stands
+// in the steps' loop, so that its numbers come in registers.
+#[inline(always)]
 pub fn numbers_at(index: usize) -> [i64; 6]
     ensures {{ entries result ≡ row_at index }}
 {{

@@ -12,14 +12,12 @@ use Rattle.algebra.proofs.Reify.{ring!, reify}
 use Rattle.algebra.proofs.Order.{⩽_trans, ⩽_refl, ⩽_of_eq}
 use Rattle.algebra.proofs.Linear.{lin, ◌&◌, none}
 use Rattle.word.proofs.Compare.{between_true}
-use Rattle.answer.specs.declared.Answer.{Answer}
-use Rattle.answer.specs.declared.Answer.TheVariants.{Answered, Refused}
+use Rattle.std.specs.Prelude.{Option, Some, None, Ok, Err}
+use Rattle.answer.specs.Answer.{Answer}
 use Rattle.book.specs.declared.Book.{Book}
 use Rattle.book.specs.declared.Institute.{Institute}
 use Rattle.book.specs.declared.Institute.TheVariants.{First, Second}
-use Rattle.book.specs.declared.Caller.{Caller}
-use Rattle.book.specs.declared.Caller.TheVariants.{Is, Neither}
-use Rattle.book.specs.declared.Reply.TheVariants.{Given, Denied}
+use Rattle.book.specs.declared.Rejection.TheVariants.{Denied}
 use Rattle.book.specs.declared.Settled.{Settled}
 use Rattle.book.specs.Book.{balances, balance, charged, is_allowance, opened}
 use Rattle.book.specs.Call.{Operation, Call, caller_of, answer_to, cost, settled, paid, charge, outcome_for, outcome}
@@ -48,19 +46,19 @@ same_is Second Second e = refl
 
 -- ---- ONE CALL
 -- of one's own: what holds of every call by p holds of every call that p makes
-own_keeps : (p : Institute) (P : Caller → Type 0) (k : Caller) → is_by p k ≡ true → P (Is p) → P k
-own_keeps p P Neither e h = never e
-own_keeps p P (Is q) e h = subst (λ r. P (Is r)) (sym (same_is p q e)) h
+own_keeps : (p : Institute) (P : Option Institute → Type 0) (k : Option Institute) → is_by p k ≡ true → P (Some p) → P k
+own_keeps p P None e h = never e
+own_keeps p P (Some q) e h = subst (λ r. P (Some r)) (sym (same_is p q e)) h
 
 -- the reply and the new balance follow from the call and the old balance
 charge_alike : (p : Institute) (n : ℤ) (a : Answer) (b d : Book) → balance p b ≡ balance p d →
     ((charge p n a b).reply ≡ (charge p n a d).reply) × (balance p (charge p n a b).book ≡ balance p (charge p n a d).book)
 unfolding paid
-charge_alike p n (Refused r) b d h = (refl, h)
-charge_alike p n (Answered f) b d h = go (lt_z (balance p b) n) (lt_z (balance p d) n) (ap (λ z. lt_z z n) h)
+charge_alike p n (Err r) b d h = (refl, h)
+charge_alike p n (Ok f) b d h = go (lt_z (balance p b) n) (lt_z (balance p d) n) (ap (λ z. lt_z z n) h)
   where
     given : Bool → Book → Settled
-    given t x = cond t (settled Denied x) (settled (Given (Answered f)) (charged p n x))
+    given t x = cond t (settled (Err Denied) x) (settled (Ok f) (charged p n x))
 
     go : (t u : Bool) → t ≡ u → ((given t b).reply ≡ (given u d).reply) × (balance p (given t b).book ≡ balance p (given u d).book)
     go true true e = (refl, h)
@@ -68,14 +66,14 @@ charge_alike p n (Answered f) b d h = go (lt_z (balance p b) n) (lt_z (balance p
     go false true e = never e
     go false false e = (refl, charged_own p n b ∙ (ap (λ z. z -ℤ n) h ∙ sym (charged_own p n d)))
 
-own_alike : (p : Institute) (k : Caller) (o : Operation) (b d : Book) → is_by p k ≡ true → balance p b ≡ balance p d →
+own_alike : (p : Institute) (k : Option Institute) (o : Operation) (b d : Book) → is_by p k ≡ true → balance p b ≡ balance p d →
     ((outcome_for k o b).reply ≡ (outcome_for k o d).reply) × (balance p (outcome_for k o b).book ≡ balance p (outcome_for k o d).book)
 own_alike p k o b d e h = own_keeps p
     (λ k. ((outcome_for k o b).reply ≡ (outcome_for k o d).reply) × (balance p (outcome_for k o b).book ≡ balance p (outcome_for k o d).book))
     k e (charge_alike p (cost o) (answer_to o) b d h)
 
 -- what is left and what it cost is what there was
-own_conserved : (p : Institute) (k : Caller) (o : Operation) (b : Book) → is_by p k ≡ true →
+own_conserved : (p : Institute) (k : Option Institute) (o : Operation) (b : Book) → is_by p k ≡ true →
     balance p b ≡ balance p (outcome_for k o b).book +ℤ cost_in (outcome_for k o b).reply o
 own_conserved p k o b e = own_keeps p (λ k. balance p b ≡ balance p (outcome_for k o b).book +ℤ cost_in (outcome_for k o b).reply o) k e
     (charge_keeps (λ s. balance p b ≡ balance p s.book +ℤ cost_in s.reply o) p o b
@@ -90,9 +88,9 @@ own_conserved p k o b e = own_keeps p (λ k. balance p b ≡ balance p (outcome_
     something x y n e = rw e (ring! ℤR (x ∷ n ∷ []) (search reify depth 20) tt)
 
 -- of anyone else: the balance stays
-other_stays : (p : Institute) (k : Caller) (o : Operation) (b : Book) → is_by p k ≡ false → balance p (outcome_for k o b).book ≡ balance p b
-other_stays p Neither o b e = refl
-other_stays p (Is q) o b e = charge_keeps (λ s. balance p s.book ≡ balance p b) q o b (λ r h. refl) refl
+other_stays : (p : Institute) (k : Option Institute) (o : Operation) (b : Book) → is_by p k ≡ false → balance p (outcome_for k o b).book ≡ balance p b
+other_stays p None o b e = refl
+other_stays p (Some q) o b e = charge_keeps (λ s. balance p s.book ≡ balance p b) q o b (λ r h. refl) refl
     (λ f h l. charged_other p q (cost o) b e)
 
 -- "A refused call leaves the book as it found it"
@@ -100,9 +98,9 @@ pub refused_free : (c : Call) (b : Book) → LeftAlone c b
 unfolding outcome
 refused_free c b = go (caller_of c.caller) c.operation
   where
-    go : (k : Caller) (o : Operation) → is_answered (outcome_for k o b).reply ≡ false → (outcome_for k o b).book ≡ b
-    go Neither o = λ h. refl
-    go (Is q) o = charge_keeps (λ s. is_answered s.reply ≡ false → s.book ≡ b) q o b (λ r e h. refl) (λ h. refl) (λ f e l h. never (sym h))
+    go : (k : Option Institute) (o : Operation) → is_answered (outcome_for k o b).reply ≡ false → (outcome_for k o b).book ≡ b
+    go None o = λ h. refl
+    go (Some q) o = charge_keeps (λ s. is_answered s.reply ≡ false → s.book ≡ b) q o b (λ r e h. refl) (λ h. refl) (λ f e l h. never (sym h))
 
 -- ---- EVERY RUN
 pub conserved : (p : Institute) (cs : List Call) (b : Book) → Conserved p cs b
@@ -136,7 +134,7 @@ less x y n e c l = subst (Falls x) (sym e) (record {
   high = lin (x ∷ n ∷ []) (c & none) (search reify depth 20) tt;
 })
 
-call_falls : (p : Institute) (k : Caller) (o : Operation) (b : Book) → Falls (balance p b) (balance p (outcome_for k o b).book)
+call_falls : (p : Institute) (k : Option Institute) (o : Operation) (b : Book) → Falls (balance p b) (balance p (outcome_for k o b).book)
 call_falls p k o b = either (is_by p k)
     (λ e. own_keeps p (λ k. Falls (balance p b) (balance p (outcome_for k o b).book)) k e
     (charge_keeps (λ s. Falls (balance p b) (balance p s.book)) p o b (λ r h. unmoved refl) (unmoved refl)

@@ -1,20 +1,18 @@
 -- One call (02, E10): "A call is EXP or LOG in plain numbers, with the caller's number and the book, and gives the answer record and the new
 -- book."
-use Rattle.std.specs.Prelude.{cond, List, eqb, ℤ, pos, negsuc, ◌-ℤ◌}
+use Rattle.std.specs.Prelude.{cond, List, eqb, ℤ, pos, negsuc, ◌-ℤ◌, Option, Some, None, Result, Ok, Err}
 use Rattle.std.specs.Int.Signed.{lt_z}
 use Rattle.answer.specs.declared.Figures.{Figures}
-use Rattle.answer.specs.declared.Answer.{Answer}
-use Rattle.answer.specs.declared.Answer.TheVariants.{Answered, Refused}
-use Rattle.answer.specs.Record.{numbers, no_figures, record_of}
+use Rattle.answer.specs.Answer.{Answer}
+use Rattle.answer.specs.Refusal.{refusal_number}
+use Rattle.answer.specs.Record.{numbers, no_figures}
 use Rattle.exponential.specs.Answer.{exp_answer}
 use Rattle.logarithm.specs.Answer.{log_answer}
 use Rattle.book.specs.declared.Book.{Book}
 use Rattle.book.specs.declared.Institute.{Institute}
 use Rattle.book.specs.declared.Institute.TheVariants.{First, Second}
-use Rattle.book.specs.declared.Caller.{Caller}
-use Rattle.book.specs.declared.Caller.TheVariants.{Is, Neither}
-use Rattle.book.specs.declared.Reply.{Reply}
-use Rattle.book.specs.declared.Reply.TheVariants.{Given, Denied}
+use Rattle.book.specs.declared.Rejection.{Rejection}
+use Rattle.book.specs.declared.Rejection.TheVariants.{Refused, Denied}
 use Rattle.book.specs.declared.Settled.{Settled}
 use Rattle.book.specs.Book.{balance, charged, denial_number}
 
@@ -34,9 +32,9 @@ abbrev pub log_by : ℤ → ℤ → ℤ → ℤ → Call
 log_by caller n x y = record { caller = caller; operation = Log n x y }
 
 -- "number 1 for ours and 2 for the sister's"
-unfoldable pub caller_of : ℤ → Caller
-caller_of (pos n) = cond (eqb n 1) (Is First) (cond (eqb n 2) (Is Second) Neither)
-caller_of (negsuc n) = Neither
+unfoldable pub caller_of : ℤ → Option Institute
+caller_of (pos n) = cond (eqb n 1) (Some First) (cond (eqb n 2) (Some Second) None)
+caller_of (negsuc n) = None
 
 -- "with the same tables": what EXP and LOG answer to anyone
 abbrev pub answer_to : Operation → Answer
@@ -49,32 +47,38 @@ cost (Exp n ex ey sx sy) = n
 cost (Log n x y) = n -ℤ pos 2
 
 -- ---- what it gives
+-- figures, or why there are none
+abbrev pub Reply : Type 0
+Reply = Result Figures Rejection
+
 abbrev pub settled : Reply → Book → Settled
 settled r b = record { reply = r; book = b }
 
 -- figures for their cost, but "10 .. for a cost above the caller's balance (after every other refusal of the call)"
 unfoldable pub paid : Institute → ℤ → Figures → Book → Settled
-paid who cost f b = cond (lt_z (balance who b) cost) (settled Denied b) (settled (Given (Answered f)) (charged who cost b))
+paid who cost f b = cond (lt_z (balance who b) cost) (settled (Err Denied) b) (settled (Ok f) (charged who cost b))
 
 -- "a refused call is free", and "leaves the book as it found it"
 abbrev pub charge : Institute → ℤ → Answer → Book → Settled
-charge who cost (Answered f) b = paid who cost f b
-charge who cost (Refused r) b = settled (Given (Refused r)) b
+charge who cost (Ok f) b = paid who cost f b
+charge who cost (Err r) b = settled (Err (Refused r)) b
 
 -- "10 .. for a caller that is neither institute (before all else in a call)"
-abbrev pub outcome_for : Caller → Operation → Book → Settled
-outcome_for (Is who) o b = charge who (cost o) (answer_to o) b
-outcome_for Neither o b = settled Denied b
+abbrev pub outcome_for : Option Institute → Operation → Book → Settled
+outcome_for (Some who) o b = charge who (cost o) (answer_to o) b
+outcome_for None o b = settled (Err Denied) b
 
 unfoldable pub outcome : Call → Book → Settled
 outcome c b = outcome_for (caller_of c.caller) c.operation b
 
 -- "the answer record": that of EXP or LOG, or 10 and zeros
 unfoldable pub reply_record : Reply → List ℤ
-reply_record (Given a) = record_of a
-reply_record Denied = numbers denial_number no_figures
+reply_record (Ok f) = numbers (pos 0) f
+reply_record (Err (Refused r)) = numbers (refusal_number r) no_figures
+reply_record (Err Denied) = numbers denial_number no_figures
 
 -- what is said of an answer, of a reply that gives one
 abbrev pub OfAnswer : (Answer → Type 0) → Reply → Type 0
-OfAnswer P (Given a) = P a
-OfAnswer P Denied = Unit {0}
+OfAnswer P (Ok f) = P (Ok f)
+OfAnswer P (Err (Refused r)) = P (Err r)
+OfAnswer P (Err Denied) = Unit {0}

@@ -1,17 +1,13 @@
 -- Runs (02, E10): "each call is handed the book .. that the one before gave back, the first that of the opening", and what is proved of
 -- every run for either institute. A run may begin with any book, and has calls by anyone.
-use Rattle.std.specs.Prelude.{◌≡◌, Bool, true, false, cond, List, [], ◌∷◌, ℤ, pos, ◌+ℤ◌}
+use Rattle.std.specs.Prelude.{◌≡◌, Bool, true, false, cond, List, [], ◌∷◌, ℤ, pos, ◌+ℤ◌, Option, Some, None, Ok, Err}
 use Rattle.algebra.specs.Order.{◌⩽◌}
-use Rattle.answer.specs.declared.Answer.TheVariants.{Answered, Refused}
 use Rattle.book.specs.declared.Book.{Book}
 use Rattle.book.specs.declared.Institute.{Institute}
 use Rattle.book.specs.declared.Institute.TheVariants.{First, Second}
-use Rattle.book.specs.declared.Caller.{Caller}
-use Rattle.book.specs.declared.Caller.TheVariants.{Is, Neither}
-use Rattle.book.specs.declared.Reply.{Reply}
-use Rattle.book.specs.declared.Reply.TheVariants.{Given, Denied}
+use Rattle.book.specs.declared.Rejection.TheVariants.{Refused, Denied}
 use Rattle.book.specs.Book.{balance, opened}
-use Rattle.book.specs.Call.{Operation, Call, caller_of, cost, outcome}
+use Rattle.book.specs.Call.{Reply, Operation, Call, caller_of, cost, outcome}
 
 -- ---- a run of calls from a book on: each call with what it was replied
 pub record Entry : Type 0 where
@@ -34,9 +30,9 @@ same First Second = false
 same Second First = false
 same Second Second = true
 
-abbrev pub is_by : Institute → Caller → Bool
-is_by p (Is q) = same p q
-is_by p Neither = false
+abbrev pub is_by : Institute → Option Institute → Bool
+is_by p (Some q) = same p q
+is_by p None = false
 
 abbrev pub own : Institute → Call → Bool
 own p c = is_by p (caller_of c.caller)
@@ -51,9 +47,9 @@ entries_of p (e ∷ es) = cond (own p e.call) (e ∷ entries_of p es) (entries_o
 
 -- ---- "the costs of its answered calls"
 abbrev pub is_answered : Reply → Bool
-is_answered (Given (Answered f)) = true
-is_answered (Given (Refused r)) = false
-is_answered Denied = false
+is_answered (Ok f) = true
+is_answered (Err (Refused r)) = false
+is_answered (Err Denied) = false
 
 abbrev pub cost_in : Reply → Operation → ℤ
 cost_in r o = cond (is_answered r) (cost o) (pos 0)

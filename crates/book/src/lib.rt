@@ -2,16 +2,17 @@
 // is charged to its caller, and a refused one is free.
 #![tactic(auto)]
 
-ghost use Rattle.std.specs.Prelude.{◌≡◌, pos};
+ghost use Rattle.std.specs.Prelude.{◌≡◌, pos, ◌-ℤ◌, Err, IfOk};
 ghost use Rattle.algebra.specs.Order.{◌⩽◌};
 ghost use Rattle.answer.specs.Remainder.{RemainderBelow};
 ghost use Rattle.exponential.specs.Answer.{Close as ExpClose};
 ghost use Rattle.logarithm.specs.Answer.{Close as LogClose};
 ghost use Rattle.book.specs.Book.{balance, charged, opened};
-ghost use Rattle.book.specs.Call.{caller_of, paid, outcome, exp_by, log_by, OfAnswer, reply_record};
-ghost use Rattle.book.specs.Code.{Covered};
+ghost use Rattle.book.specs.declared.Rejection.TheVariants.{Denied};
+ghost use Rattle.book.specs.Call.{caller_of, settled, paid, charge, outcome, exp_by, log_by, OfAnswer, reply_record};
+ghost use Rattle.book.specs.Code.{Covered, Payable};
 
-use answer::{Answer, Figures};
+use answer::{Figures, Refusal};
 use point::Point;
 
 // The largest allowance, in steps.
@@ -34,34 +35,31 @@ pub struct Opening {
 }
 
 // Number 1, ours, and number 2, the sister's.
-#[derive(Clone, Copy)]
+#[derive(Clone, Copy, Debug, PartialEq, Eq)]
 pub enum Institute {
     First,
     Second,
 }
 
-#[derive(Clone, Copy)]
-enum Caller {
-    Is(Institute),
-    Neither,
-}
-
-// What a call is replied: what EXP or LOG answers, or that the book does not allow it, which is refusal 10.
-#[derive(Clone, Copy)]
-pub enum Reply {
-    Given(Answer),
+// Why a call has no figures.
+#[derive(Clone, Copy, Debug, PartialEq, Eq)]
+pub enum Rejection {
+    // EXP or LOG turns the input away, under a number of its own
+    Refused(Refusal),
+    // 10: the book does not allow the call
     Denied,
 }
 
 #[derive(Clone, Copy)]
 pub struct Settled {
-    pub reply: Reply,
+    pub reply: Result<Figures, Rejection>,
     pub book: Book,
 }
 
 // ---- the balances
 
 // A book with two allowances, each from 0 to MOST.
+#[tactic(auto, unfolding(crate::specs::Book::opened))]
 pub fn open(first: i64, second: i64) -> Opening
     ensures { result ≡ opened first second }
 {
@@ -94,16 +92,14 @@ fn charged(book: Book, who: Institute, cost: i64) -> Book
     requires { Covered who cost book }
     ensures { result ≡ charged who cost book }
 {
-    let first = book.first;
-    let second = book.second;
     match who {
         Institute::First => Book {
-            first: first - cost,
-            second,
+            first: book.first - cost,
+            ..book
         },
         Institute::Second => Book {
-            first,
-            second: second - cost,
+            second: book.second - cost,
+            ..book
         },
     }
 }
@@ -111,16 +107,24 @@ fn charged(book: Book, who: Institute, cost: i64) -> Book
 // ---- a call
 
 // The institute of a number.
-fn caller_of(number: i64) -> Caller
+#[tactic(auto, unfolding(crate::specs::Call::caller_of))]
+fn caller_of(number: i64) -> Option<Institute>
     ensures { result ≡ caller_of number }
 {
-    if number == 1 {
-        return Caller::Is(Institute::First);
+    match number {
+        1 => Some(Institute::First),
+        2 => Some(Institute::Second),
+        _ => None,
     }
-    if number == 2 {
-        return Caller::Is(Institute::Second);
+}
+
+fn denied(book: Book) -> Settled
+    ensures { result ≡ settled (Err Denied) book }
+{
+    Settled {
+        reply: Err(Rejection::Denied),
+        book,
     }
-    Caller::Neither
 }
 
 // Figures for their cost, unless that is above the balance.
@@ -129,14 +133,31 @@ fn pay(book: Book, who: Institute, cost: i64, figures: Figures) -> Settled
     ensures { result ≡ paid who cost figures book }
 {
     if balance(book, who) < cost {
-        return Settled {
-            reply: Reply::Denied,
-            book,
-        };
+        return denied(book);
     }
     Settled {
-        reply: Reply::Given(Answer::Answered(figures)),
+        reply: Ok(figures),
         book: charged(book, who, cost),
+    }
+}
+
+// An answer by n steps, of which those that an operation skips are not charged. A refusal is free.
+fn settle(
+    book: Book,
+    who: Institute,
+    n: i64,
+    skipped: i64,
+    answer: Result<Figures, Refusal>,
+) -> Settled
+    requires { IfOk answer (λ f. Payable (n -ℤ skipped)) }
+    ensures { result ≡ charge who (n -ℤ skipped) answer book }
+{
+    match answer {
+        Ok(figures) => pay(book, who, n - skipped, figures),
+        Err(r) => Settled {
+            reply: Err(Rejection::Refused(r)),
+            book,
+        },
     }
 }
 
@@ -146,21 +167,10 @@ pub fn exp(book: Book, caller: i64, n: i64, exponent: Point, start: Point) -> Se
     ensures close { OfAnswer (ExpClose n exponent.x exponent.y start.x start.y) result.reply }
     ensures remainder { OfAnswer (RemainderBelow 48 n) result.reply }
 {
-    let named = caller_of(caller);
-    let Caller::Is(who) = named else {
-        return Settled {
-            reply: Reply::Denied,
-            book,
-        };
+    let Some(who) = caller_of(caller) else {
+        return denied(book);
     };
-    let answer = exponential::exp(n, exponent, start);
-    match answer {
-        Answer::Answered(figures) => pay(book, who, n, figures),
-        Answer::Refused(r) => Settled {
-            reply: Reply::Given(Answer::Refused(r)),
-            book,
-        },
-    }
+    settle(book, who, n, 0, exponential::exp(n, exponent, start))
 }
 
 // LOG for the institute of a number: its steps begin with the third, and n - 2 are charged.
@@ -169,31 +179,20 @@ pub fn log(book: Book, caller: i64, n: i64, p: Point) -> Settled
     ensures close { OfAnswer (LogClose n p.x p.y) result.reply }
     ensures remainder { OfAnswer (RemainderBelow 48 n) result.reply }
 {
-    let named = caller_of(caller);
-    let Caller::Is(who) = named else {
-        return Settled {
-            reply: Reply::Denied,
-            book,
-        };
+    let Some(who) = caller_of(caller) else {
+        return denied(book);
     };
-    let answer = logarithm::log(n, p);
-    match answer {
-        Answer::Answered(figures) => pay(book, who, n - 2, figures),
-        Answer::Refused(r) => Settled {
-            reply: Reply::Given(Answer::Refused(r)),
-            book,
-        },
-    }
+    settle(book, who, n, 2, logarithm::log(n, p))
 }
 
-impl Reply {
-    // The record of eight numbers.
-    pub fn record(self) -> [i64; 8]
-        ensures { result ≡ reply_record self }
-    {
-        match self {
-            Reply::Given(a) => a.record(),
-            Reply::Denied => [10, 0, 0, 0, 0, 0, 0, 0],
-        }
+// The record of eight numbers.
+#[tactic(auto, unfolding(crate::specs::Call::reply_record, answer::specs::Record::record_of))]
+pub fn record(reply: Result<Figures, Rejection>) -> [i64; 8]
+    ensures { result ≡ reply_record reply }
+{
+    match reply {
+        Ok(figures) => answer::record(Ok(figures)),
+        Err(Rejection::Refused(r)) => answer::record(Err(r)),
+        Err(Rejection::Denied) => [10, 0, 0, 0, 0, 0, 0, 0],
     }
 }

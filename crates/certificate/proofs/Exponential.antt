@@ -29,7 +29,7 @@ use Rattle.table_numbers.proofs.Promises.{StepPromise, ConstantsPromise}
 use Rattle.table_numbers.proofs.Promise48.{constants_promise}
 use Rattle.tables.proofs.Promises.{step_promise}
 use Rattle.iteration.specs.declared.State.{State}
-use Rattle.iteration.specs.declared.Mode.TheVariants.{Exp}
+use Rattle.iteration.specs.Select.{Exp}
 use Rattle.iteration.specs.Run.{state, run}
 use Rattle.iteration.proofs.Drift.{Near}
 use Rattle.exponential.specs.declared.reduction.Reduced.{Reduced}

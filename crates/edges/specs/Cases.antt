@@ -9,7 +9,7 @@ use Rattle.table_numbers.specs.declared.Entry.{Entry}
 use Rattle.table_numbers.specs.Rows.{number, reciprocal_at}
 use Rattle.table_numbers.specs.Table.{step_table, reciprocal_table}
 use Rattle.iteration.specs.declared.State.{State}
-use Rattle.iteration.specs.declared.Mode.TheVariants.{Exp, Log}
+use Rattle.iteration.specs.Select.{Exp, Log}
 use Rattle.iteration.specs.Run.{state, next, digits}
 use Rattle.exponential.specs.Answer.{exp_answer}
 use Rattle.logarithm.specs.Reduction.{turned, column, row, cell_x, cell_y}

@@ -19,8 +19,7 @@ use Rattle.table_numbers.specs.Window.{Span, about, Lies, real, imag}
 use Rattle.table_numbers.specs.Promise.{StepTable, look, StepEntry}
 use Rattle.table_numbers.proofs.Promises.{StepPromise}
 use Rattle.iteration.specs.declared.State.{State}
-use Rattle.iteration.specs.declared.Mode.TheVariants.{Exp}
-use Rattle.iteration.specs.Select.{low_x, high_x, low_y, high_y, exp_select}
+use Rattle.iteration.specs.Select.{Exp, low_x, high_x, low_y, high_y, exp_select}
 use Rattle.iteration.specs.Run.{select, next, moved, run}
 use Rattle.iteration.proofs.Digits.{cut_says, exp_digit}
 use Rattle.iteration.proofs.Runs.{run_keeps}

@@ -23,7 +23,7 @@ use Rattle.point.specs.Point.{gauss}
 use Rattle.table_numbers.specs.Promise.{StepTable}
 use Rattle.table_numbers.proofs.Promises.{StepPromise}
 use Rattle.iteration.specs.declared.State.{State}
-use Rattle.iteration.specs.declared.Mode.TheVariants.{Exp}
+use Rattle.iteration.specs.Select.{Exp}
 use Rattle.iteration.specs.Run.{state, run}
 use Rattle.iteration.proofs.Factor.{product_most}
 use Rattle.iteration.proofs.Drift.{Short, Near, near_start, drift}

@@ -26,7 +26,7 @@ use Rattle.table_numbers.specs.Table.{step_table}
 use Rattle.table_numbers.proofs.Promises.{StepPromise, ConstantsPromise}
 use Rattle.table_numbers.proofs.Promise48.{constants_promise}
 use Rattle.tables.proofs.Promises.{step_promise}
-use Rattle.iteration.specs.declared.Mode.TheVariants.{Exp}
+use Rattle.iteration.specs.Select.{Exp}
 use Rattle.iteration.specs.Run.{state, Fits}
 use Rattle.iteration.proofs.Drift.{exact_start, exact_run, exact_size}
 use Rattle.exponential.specs.declared.reduction.Reduced.{Reduced}

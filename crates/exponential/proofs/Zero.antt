@@ -22,7 +22,7 @@ use Rattle.std.specs.Prelude.{Ok}
 use Rattle.table_numbers.specs.Promise.{StepTable, Constants}
 use Rattle.table_numbers.specs.Numbers48.{constants48}
 use Rattle.table_numbers.specs.Table.{step_table}
-use Rattle.iteration.specs.declared.Mode.TheVariants.{Exp}
+use Rattle.iteration.specs.Select.{Exp}
 use Rattle.iteration.specs.Run.{state, select, next}
 use Rattle.iteration.proofs.Runs.{run_keeps}
 use Rattle.exponential.specs.declared.reduction.Reduced.{Reduced}

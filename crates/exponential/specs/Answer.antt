@@ -15,7 +15,7 @@ use Rattle.table_numbers.specs.Promise.{StepTable, Constants}
 use Rattle.table_numbers.specs.Numbers48.{constants48}
 use Rattle.table_numbers.specs.Table.{step_table}
 use Rattle.iteration.specs.declared.State.{State}
-use Rattle.iteration.specs.declared.Mode.TheVariants.{Exp}
+use Rattle.iteration.specs.Select.{Exp}
 use Rattle.iteration.specs.Run.{state, run}
 use Rattle.exponential.specs.declared.reduction.Reduced.{Reduced}
 use Rattle.exponential.specs.Reduction.{in_rectangle, in_reach, reduction}

@@ -10,7 +10,7 @@ ghost use Rattle.exponential.specs.Answer.{error_bound_of, exp_answer, exp_begin
 ghost use Rattle.exponential.specs.Code.{Right};
 
 use answer::{Figures, Refusal};
-use iteration::{Mode, State};
+use iteration::{Exp, State};
 use point::Point;
 
 mod reduction;
@@ -63,7 +63,7 @@ pub fn exp(n: i64, exponent: Point, start: Point) -> Result<Figures, Refusal>
     let given = reduction::reduce(exponent, start);
     let s = given.start;
     let e = given.exponent;
-    let end = iteration::run(Mode::Exp, 0, steps, State { point: s, sum: e });
+    let end = iteration::run::<Exp>(0, steps, State { point: s, sum: e });
     let last = end.point;
     let left = end.sum;
     // part by part, so that nothing is copied in between

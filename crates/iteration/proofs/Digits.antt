@@ -1,7 +1,7 @@
 -- What the digits of a mode say: of the number that each part was read off, and how LOG's brings the point nearer to one.
 use mathlib.Core.Bool.{Bool, true, false, not, cond}
 use mathlib.Core.List.{List, [], ◌∷◌}
-use mathlib.Core.Path.{◌≡◌, sym, ap, ap₂}
+use mathlib.Core.Path.{◌≡◌, sym, ap₂}
 use Prim.Native.Nat.{ℕ, ◌<◌}
 use lib.Dec.{T}
 use lib.IntN.{ℤ, pos, negsuc, neg_ℤ, ◌+ℤ◌, ◌-ℤ◌, ◌*ℤ◌}
@@ -14,13 +14,11 @@ use Rattle.algebra.proofs.Order.{tested, tested<, nonneg_mul, nonneg_pos, sub_no
 use Rattle.algebra.proofs.Inequality.{below_next, le_cancel}
 use Rattle.algebra.proofs.Linear.{lin, lin<, ◌&◌, ◌&<◌, none}
 use Rattle.algebra.proofs.Floor.{floor_lo, floor_hi}
-use Rattle.word.proofs.Compare.{le_z_true, le_le_z, lt_le_z, lt_lt_z, le_lt_z}
+use Rattle.word.proofs.Compare.{le_le_z, lt_le_z, lt_lt_z, le_lt_z}
 use Rattle.point.specs.Digit.{Trit, t-, t0, t+, IsDigit}
 use Rattle.point.specs.Point.{gauss}
 use Rattle.iteration.specs.declared.State.{State}
-use Rattle.iteration.specs.declared.Mode.{Mode}
-use Rattle.iteration.specs.declared.Mode.TheVariants.{Exp, Log}
-use Rattle.iteration.specs.Select.{exp_select, log_select, low_x, high_x, low_y, high_y, cut, half, cut_back}
+use Rattle.iteration.specs.Select.{Mode, Exp, Log, exp_select, log_select, low_x, high_x, low_y, high_y, cut, half, cut_back}
 use Rattle.iteration.specs.Run.{select}
 
 -- ---- what a part of EXP's digit says of the number that it was read off
@@ -79,23 +77,7 @@ less_floor m h z a = tested< (λ b. b ≡ lt_z z (pos m *ℤ a)) (shr_z z m) a
 pub cut_floor : (m : ℕ) → 0 < m → (lo hi z : ℤ) → cut lo hi (shr_z z m) ≡ cut (pos m *ℤ lo) (pos m *ℤ hi) z
 cut_floor m h lo hi z = ap₂ chosen (less_floor m h z lo) (less_floor m h z hi)
 
--- ---- a part of LOG's digit by its two tests, in either order
-pub back_low : (t u : ℤ) → le_z u (neg_ℤ t) ≡ true → cut_back t u ≡ pos 1
-unfolding cut_back
-back_low t u h = ap (λ a. cond a (pos 1) (cond (le_z t u) (negsuc 0) (pos 0))) h
-
-pub back_high : (t u : ℤ) → pos 1 ⩽ t → le_z t u ≡ true → cut_back t u ≡ negsuc 0
-unfolding cut_back
-back_high t u g h = ap₂ (λ a b. cond a (pos 1) (cond b (negsuc 0) (pos 0))) (lt_le_z above) h
-  where
-    above : neg_ℤ t ⋖ u
-    above = lin< (t ∷ u ∷ []) (g & le_z_true {x = t} {y = u} h & none) (search reify depth 20) tt
-
-pub back_mid : (t u : ℤ) → le_z u (neg_ℤ t) ≡ false → le_z t u ≡ false → cut_back t u ≡ pos 0
-unfolding cut_back
-back_mid t u h g = ap₂ (λ a b. cond a (pos 1) (cond b (negsuc 0) (pos 0))) h g
-
--- the tests with the thresholds around one
+-- ---- a part of LOG's digit: the tests with the thresholds around one
 module _ (t one x : ℤ) where
   abbrev u : ℤ
   u = x -ℤ one

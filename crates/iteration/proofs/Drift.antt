@@ -31,7 +31,7 @@ use Rattle.table_numbers.specs.Promise.{Rule, StepTable, look, StepEntry}
 use Rattle.table_numbers.proofs.EntrySize.{entry_short}
 use Rattle.table_numbers.proofs.Promises.{StepPromise}
 use Rattle.iteration.specs.declared.State.{State}
-use Rattle.iteration.specs.declared.Mode.{Mode}
+use Rattle.iteration.specs.Select.{Mode}
 use Rattle.iteration.specs.Run.{state, select, next, moved, run}
 use Rattle.iteration.proofs.Digits.{select_digit}
 use Rattle.iteration.proofs.Runs.{run_keeps}

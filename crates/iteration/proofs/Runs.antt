@@ -7,7 +7,7 @@ use native.Mathlib.Omega.{arith}
 use lib.ListN.{take}
 use Rattle.table_numbers.specs.Promise.{StepTable}
 use Rattle.iteration.specs.declared.State.{State}
-use Rattle.iteration.specs.declared.Mode.{Mode}
+use Rattle.iteration.specs.Select.{Mode}
 use Rattle.iteration.specs.Run.{select, moved, run, digits}
 
 module _ (F : ℕ) (t : StepTable) (mode : Mode) where

@@ -3,6 +3,11 @@ use Rattle.std.specs.Prelude.{cond, ℕ, suc, ◌-◌, ℤ, pos, negsuc, neg_ℤ
 use Rattle.std.specs.Int.Signed.{lt_z, le_z}
 use Rattle.algebra.specs.Gauss.{𝔾, gi, two}
 
+-- what the digits are read off: EXP is the E-mode of 000, LOG the L-mode
+pub data Mode : Type 0 where
+  Exp : Mode
+  Log : Mode
+
 -- ---- EXP, from the exponent e that is left: "dx = −1 if ex < −2^(47−n); 1 if ex ≥ 3·2^(45−n); else 0. dy = −1 if ey < −3·2^(46−n); 1 if
 -- ey ≥ 13·2^(44−n); else 0"
 abbrev pub low_x : ℕ → ℕ → ℤ

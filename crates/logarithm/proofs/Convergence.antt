@@ -22,8 +22,7 @@ use Rattle.point.proofs.Rounding.{step_error}
 use Rattle.table_numbers.specs.Promise.{StepTable, ReciprocalTable, ReciprocalEntry}
 use Rattle.table_numbers.proofs.Promises.{StepPromise, ReciprocalPromise}
 use Rattle.iteration.specs.declared.State.{State}
-use Rattle.iteration.specs.declared.Mode.TheVariants.{Log}
-use Rattle.iteration.specs.Select.{half, log_select}
+use Rattle.iteration.specs.Select.{Log, half, log_select}
 use Rattle.iteration.specs.Run.{select, next, moved, run}
 use Rattle.iteration.proofs.Digits.{log_digit, log_near, select_digit}
 use Rattle.iteration.proofs.Runs.{run_keeps}

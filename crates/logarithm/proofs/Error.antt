@@ -23,8 +23,7 @@ use Rattle.series.proofs.Series.{exp_zero}
 use Rattle.point.specs.Point.{gauss}
 use Rattle.table_numbers.specs.Promise.{StepTable, ReciprocalTable, ReciprocalEntry}
 use Rattle.table_numbers.proofs.Promises.{StepPromise, ReciprocalPromise}
-use Rattle.iteration.specs.declared.Mode.TheVariants.{Log}
-use Rattle.iteration.specs.Select.{half}
+use Rattle.iteration.specs.Select.{Log, half}
 use Rattle.iteration.specs.Run.{state, run}
 use Rattle.iteration.proofs.Drift.{Short, Exact, exact_length, Near, one_factor, drift}
 use Rattle.logarithm.specs.Reduction.{bit_length, scaled, up, down, cell_x, cell_y, reciprocal_of, reduced}

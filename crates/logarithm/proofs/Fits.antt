@@ -30,7 +30,7 @@ use Rattle.table_numbers.specs.Reciprocal.{InTable}
 use Rattle.table_numbers.specs.Promise.{StepTable, ReciprocalTable}
 use Rattle.table_numbers.specs.Rows.{number}
 use Rattle.table_numbers.proofs.Promises.{StepPromise, ReciprocalPromise}
-use Rattle.iteration.specs.declared.Mode.TheVariants.{Log}
+use Rattle.iteration.specs.Select.{Log}
 use Rattle.iteration.specs.Run.{Fits}
 use Rattle.logarithm.specs.Reduction.{turned, turns_back, quarters, spelling, bits, bit_length, scaled, up, down, column, row, cell_x, cell_y, reciprocal_of}
 use Rattle.logarithm.specs.Answer.{begun, error_bound_of}

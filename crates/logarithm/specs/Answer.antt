@@ -14,7 +14,7 @@ use Rattle.answer.specs.Refusal.{unless}
 use Rattle.table_numbers.specs.Promise.{StepTable, ReciprocalTable}
 use Rattle.table_numbers.specs.Table.{step_table, reciprocal_table}
 use Rattle.iteration.specs.declared.State.{State}
-use Rattle.iteration.specs.declared.Mode.TheVariants.{Log}
+use Rattle.iteration.specs.Select.{Log}
 use Rattle.iteration.specs.Run.{state, run}
 use Rattle.logarithm.specs.Reduction.{quadrant, turned, binary_exponent_of, scaled, cell_x, cell_y, reduced}
 

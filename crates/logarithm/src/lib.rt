@@ -10,7 +10,7 @@ ghost use Rattle.logarithm.specs.Answer.{log_answer, Close};
 ghost use Rattle.logarithm.specs.Code.{BoundPre, bound_at, figures_of, Accepted};
 
 use answer::{Figures, Refusal};
-use iteration::Mode;
+use iteration::Log;
 use point::Point;
 
 mod reduction;
@@ -33,14 +33,9 @@ fn less_one(p: Point) -> Point
     requires { Parts (gauss p) (two 61) }
     ensures { result ≡ point (gauss p -ᵍ one 48) }
 {
-    let one = Point::ONE;
-    let one_x = one.x;
-    let one_y = one.y;
-    let x = p.x;
-    let y = p.y;
     Point {
-        x: x - one_x,
-        y: y - one_y,
+        x: p.x - Point::ONE.x,
+        y: p.y - Point::ONE.y,
     }
 }
 
@@ -56,7 +51,7 @@ fn accepted(n: usize, p: Point) -> Figures
     let quadrant = t.quadrant;
     let m = w.x;
     let b = reduction::bit_length(m);
-    let s = iteration::run(Mode::Log, 2, n, reduction::begun(w, b));
+    let s = iteration::run::<Log>(2, n, reduction::begun(w, b));
     let sum = s.sum;
     let last = s.point;
     // part by part, so that nothing is copied in between
@@ -85,7 +80,7 @@ pub fn log(n: i64, p: Point) -> Result<Figures, Refusal>
     if !p.is_in_parts() {
         return Err(Refusal::Part);
     }
-    if p.is_in_box(0, 0, 0, 0) {
+    if p == Point::ZERO {
         return Err(Refusal::Zero);
     }
     Ok(accepted(n as usize, p))

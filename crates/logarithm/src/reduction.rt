@@ -28,9 +28,7 @@ fn in_cone(p: Point) -> bool
     requires { Parts (gauss p) (two 61) }
     ensures { result ≡ in_cone (gauss p) }
 {
-    let x = p.x;
-    let y = p.y;
-    if -x < y { y <= x } else { false }
+    -p.x < p.y && p.y <= p.x
 }
 
 fn turned_back(p: Point) -> Point
@@ -41,11 +39,11 @@ fn turned_back(p: Point) -> Point
 }
 
 // How half a turn is written: a w above the axis is that of a point below it, which is reached backwards.
+#[tactic(auto, unfolding(crate::specs::Reduction::spelling))]
 fn half_turn(w: Point) -> i64
     ensures { result ≡ spelling 2 (gauss w) }
 {
-    let y = w.y;
-    if 0 < y { -2 } else { 2 }
+    if 0 < w.y { -2 } else { 2 }
 }
 
 pub fn turned(p: Point) -> Turn
@@ -94,19 +92,17 @@ fn scaled(w: Point, b: usize) -> Point
     requires { ScalePre 48 w b }
     ensures { result ≡ point (scaled 48 (gauss w)) }
 {
-    let x = w.x;
-    let y = w.y;
     if b <= 48 {
         let up = 48 - b;
         Point {
-            x: x << up,
-            y: y << up,
+            x: w.x << up,
+            y: w.y << up,
         }
     } else {
         let down = b - 48;
         Point {
-            x: x >> down,
-            y: y >> down,
+            x: w.x >> down,
+            y: w.y >> down,
         }
     }
 }
@@ -118,12 +114,8 @@ fn reduced(p: Point, c: Entry) -> Point
     requires { ReducePre 48 p c }
     ensures { result ≡ point (floorᵍ (number c *ᵍ gauss p) 64) }
 {
-    let x = p.x;
-    let y = p.y;
-    let a = c.re;
-    let b = c.im;
-    let re = a * x - b * y;
-    let im = a * y + b * x;
+    let re = c.re * p.x - c.im * p.y;
+    let im = c.re * p.y + c.im * p.x;
     Point {
         x: re >> 6,
         y: im >> 6,
@@ -134,9 +126,10 @@ fn negated(t: Entry) -> Point
     requires { Parts (number t) (two 61) }
     ensures { result ≡ point (negᵍ (number t)) }
 {
-    let re = t.re;
-    let im = t.im;
-    Point { x: -re, y: -im }
+    Point {
+        x: -t.re,
+        y: -t.im,
+    }
 }
 
 // What the steps start from: the turned point scaled and brought near one, and minus the logarithm of the reciprocal. A cell is 2^44 units

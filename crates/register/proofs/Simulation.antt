@@ -26,8 +26,7 @@ use Rattle.table_numbers.specs.Promise.{StepTable, Constants, look}
 use Rattle.table_numbers.specs.Numbers48.{constants48}
 use Rattle.table_numbers.specs.Table.{step_table}
 use Rattle.iteration.specs.declared.State.{State}
-use Rattle.iteration.specs.declared.Mode.TheVariants.{Exp}
-use Rattle.iteration.specs.Select.{cut, low_x, high_x, low_y, high_y, exp_select}
+use Rattle.iteration.specs.Select.{Exp, cut, low_x, high_x, low_y, high_y, exp_select}
 use Rattle.iteration.specs.Run.{state, select, next, moved, run, digits}
 use Rattle.iteration.proofs.Digits.{cut_trit, cut_scaled}
 use Rattle.exponential.specs.declared.reduction.Reduced.{Reduced}

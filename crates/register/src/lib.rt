@@ -27,11 +27,9 @@ use table_numbers::Entry;
 fn select(r: Point) -> Digit
     ensures { result ≡ digit (register_select 48 (gauss r)) }
 {
-    let x = r.x;
-    let y = r.y;
     Digit {
-        dx: iteration::cut(-140737488355328, 105553116266496, x),
-        dy: iteration::cut(-211106232532992, 228698418577408, y),
+        dx: iteration::cut(-140737488355328, 105553116266496, r.x),
+        dy: iteration::cut(-211106232532992, 228698418577408, r.y),
     }
 }
 
@@ -40,14 +38,10 @@ fn doubled_less(r: Point, entry: Entry, n: usize) -> Point
     requires { LessPre (gauss r) (number entry) n }
     ensures { result ≡ point (doubled_less (gauss r) (number entry) n) }
 {
-    let x = r.x;
-    let y = r.y;
-    let re = entry.re;
-    let im = entry.im;
     let up = n + 1;
     Point {
-        x: 2 * x - (re << up),
-        y: 2 * y - (im << up),
+        x: 2 * r.x - (entry.re << up),
+        y: 2 * r.y - (entry.im << up),
     }
 }
 
@@ -56,12 +50,10 @@ fn step(s: State, d: Digit, row: [Entry; 3], n: usize) -> State
     requires { StepPre s d row n }
     ensures { result ≡ step_of s d row n }
 {
-    let v = s.point;
-    let r = s.sum;
-    let dy = d.dy;
-    let point = v.step(d, n);
-    let sum = doubled_less(r, tables::pick(row, dy), n);
-    State { point, sum }
+    State {
+        point: s.point.step(d, n),
+        sum: doubled_less(s.sum, tables::pick(row, d.dy), n),
+    }
 }
 
 // ---- the steps
@@ -72,14 +64,10 @@ fn run(n: usize, start: State) -> State
     ensures { result ≡ register_run 48 step_table 0 n start }
 {
     let mut s = start;
-    let mut k = 1;
-    while k <= n {
-        let r = s.sum;
-        let d = select(r);
-        let dx = d.dx;
-        let row = step_array::array_row(k, dx);
+    for k in 1..=n {
+        let d = select(s.sum);
+        let row = step_array::array_row(k, d.dx);
         s = step(s, d, row, k);
-        k = k + 1;
     }
     s
 }
@@ -89,9 +77,10 @@ fn doubled(e: Point) -> Point
     requires { Parts (gauss e) (two 61) }
     ensures { result ≡ point (ιᵍ (pos 2) *ᵍ gauss e) }
 {
-    let x = e.x;
-    let y = e.y;
-    Point { x: 2 * x, y: 2 * y }
+    Point {
+        x: 2 * e.x,
+        y: 2 * e.y,
+    }
 }
 
 // The register over 2^m.
@@ -99,11 +88,9 @@ fn over(r: Point, m: usize) -> Point
     requires { m < 63 }
     ensures { result ≡ point (floorᵍ (gauss r) (2 ^ m)) }
 {
-    let x = r.x;
-    let y = r.y;
     Point {
-        x: x >> m,
-        y: y >> m,
+        x: r.x >> m,
+        y: r.y >> m,
     }
 }
 
@@ -112,21 +99,17 @@ fn take(n: usize, f: Figures) -> Figures
     requires { TakePre 48 step_table n f }
     ensures { result ≡ taken 48 step_table n f }
 {
-    let e = f.remainder;
-    let s = f.value;
-    let r = doubled(e);
-    let end = run(n, State { point: s, sum: r });
-    let value = end.point;
-    let left = end.sum;
-    let remainder = over(left, n + 1);
-    let binary_exponent = f.binary_exponent;
-    let error_bound = f.error_bound;
+    let begun = State {
+        point: f.value,
+        sum: doubled(f.remainder),
+    };
+    let end = run(n, begun);
     Figures {
-        value,
-        binary_exponent,
+        value: end.point,
+        binary_exponent: f.binary_exponent,
         quadrant: 0,
-        error_bound,
-        remainder,
+        error_bound: f.error_bound,
+        remainder: over(end.sum, n + 1),
     }
 }
 

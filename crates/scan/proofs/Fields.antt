@@ -1,9 +1,10 @@
 -- Bytes parted by a mark: the fields of a line, the lines of a sheet; and bytes compared with a word.
-use Rattle.std.proofs.Common.{◌≡◌, ℕ, suc, ◌+◌, ◌<◌, ◌≤◌, Bool, true, false, T, eqb, ltb, List, [], ◌∷◌, ◌++◌, length, get_or, drop, sym, refl, ap, ◌∙◌, subst, append_assoc, append-nil, add-one, arith, drop_of_length-le, drop-cons, ltb-false, ltb-true, le-ltb, lt-ltb, eq-eqb, ne_eqb, eqb-true}
-use lib.Seq.{slice, slice-cons, slice_empty}
+use Rattle.std.proofs.Common.{◌≡◌, nat_eq, ℕ, suc, ◌+◌, ◌<◌, ◌≤◌, Bool, true, T, eqb, ltb, List, [], ◌∷◌, ◌++◌, length, drop, take, min, ◌-◌, sym, refl, ap, ◌∙◌, subst, append_assoc, append-nil, add-one, arith, drop_of_length-le, drop-cons, ltb-false, ltb-true, le-ltb, lt-ltb, eq-eqb, ne_eqb, eqb-true}
+use Rattle.std.specs.Cmp.Lexicographic.{pointwise}
+use lib.Seq.{slice}
 use Rattle.algebra.proofs.Test.{either}
 use Rattle.scan.specs.Fields.{split, fields, fields_at, same_bytes}
-use Rattle.scan.proofs.Find.{Without, Ended, parted}
+use Rattle.scan.proofs.Find.{Without, Ended, parted, cut, part_slice}
 
 -- ---- a field ends at the first tab, and the other fields begin behind it
 split_plain : (m : ℕ) (xs ys p : List ℕ) → Without m xs → split m p (xs ++ ys) ≡ split m (p ++ xs) ys
@@ -62,26 +63,19 @@ same_list (x ∷ xs) [] e = absurd (subst T (sym e) tt)
 same_list (x ∷ xs) (y ∷ ys) e =
     either (eqb x y) (λ h. rw (eqb-true x y h, same_list xs ys (rw h at e))) (λ h. absurd (subst T (sym (rw h at e)) tt))
 
+pub same_is : (xs ys : List ℕ) → pointwise nat_eq xs ys ≡ same_bytes xs ys
+unfolding same_bytes
+same_is [] [] = refl
+same_is [] (y ∷ ys) = refl
+same_is (x ∷ xs) [] = refl
+same_is (x ∷ xs) (y ∷ ys) = either (eqb x y) (λ e. rw e (same_is xs ys)) (λ e. rw e)
+
+-- the part of s from `from` up to `to`, cut to s
+pub same_cut : (s word : List ℕ) (from to : ℕ) → let end = min to (length s) in let start = min from end in
+    pointwise nat_eq (take (end - start) (drop start s)) word ≡ same_bytes (slice from to s) word
+same_cut s word from to =
+    let p = cut {from = from} {to = to} {s = s} refl refl in
+    same_is _ word ∙ ap (λ f. same_bytes f word) (part_slice _ _ s p.low ∙ p.same)
+
 pub same_word : (f : List ℕ) {w v : List ℕ} {b : Bool} → b ≡ same_bytes f w → w ≡ v → same_bytes f v ≡ b
 same_word f e h = ap (same_bytes f) (sym h) ∙ sym e
-
-pub other_length : (xs ys : List ℕ) → (length xs ≡ length ys → ⊥) → same_bytes xs ys ≡ false
-unfolding same_bytes
-other_length [] [] n = absurd (n refl)
-other_length [] (y ∷ ys) n = refl
-other_length (x ∷ xs) [] n = refl
-other_length (x ∷ xs) (y ∷ ys) n = either (eqb x y) (λ e. rw e (other_length xs ys (λ f. n (ap suc f)))) (λ e. rw e)
-
-module _ (s word : List ℕ) (i j to : ℕ) where
-  module _ (h : j < to) (k : to ≤ length s) (g : i < length word) where
-    pub same_more : get_or s j 0 ≡ get_or word i 0 → same_bytes (slice j to s) (drop i word) ≡ same_bytes (slice (j + 1) to s) (drop (i + 1) word)
-    unfolding same_bytes
-    same_more e = rw (add-one j, add-one i, slice-cons j to s 0 h k, drop-cons word i 0 g, eq-eqb _ _ e)
-
-    pub same_less : (get_or s j 0 ≡ get_or word i 0 → ⊥) → same_bytes (slice j to s) (drop i word) ≡ false
-    unfolding same_bytes
-    same_less n = rw (slice-cons j to s 0 h k, drop-cons word i 0 g, ne_eqb _ _ n)
-
-  pub same_end : j ≡ to → length word ≤ i → same_bytes (slice j to s) (drop i word) ≡ true
-  unfolding same_bytes
-  same_end e h = rw (e, slice_empty to s, drop_of_length-le word h)

@@ -1,6 +1,8 @@
 -- Where a byte stands first: a mark ends a field, a newline a line.
-use Rattle.std.proofs.Common.{◌≡◌, ℕ, zero, suc, ◌+◌, ◌-◌, ◌<◌, ◌≤◌, min, eqb, List, [], ◌∷◌, ◌++◌, length, get_or, take, drop, sym, refl, ap, ◌∙◌, add-one, arith, length-drop, take-append-drop, drop_of_length-le, length-take, length-take-le, get_or-drop, drop-cons, eq-eqb, ne_eqb, eqb-true}
+use Rattle.std.proofs.Common.{take_all, ◌≡◌, ◌==◌, cond, ltb, Option, Some, None, ltb-false, ℕ, zero, suc, ◌+◌, ◌-◌, ◌<◌, ◌≤◌, min, eqb, List, [], ◌∷◌, ◌++◌, length, get_or, take, drop, sym, refl, ap, ◌∙◌, add-one, arith, length-drop, take-append-drop, drop_of_length-le, length-take, length-take-le, get_or-drop, drop-cons, eq-eqb, ne_eqb, eqb-true}
 use native.Mathlib.Nat.{zero-min, min-zero, suc-min-suc}
+use Rattle.std.specs.List.{position_or_len}
+use Rattle.scan.specs.Code.{place}
 use lib.Seq.{slice, take-nil, drop-append-le}
 use borrow.Author.Tests.{eqb-false}
 use Rattle.algebra.proofs.Test.{either}
@@ -34,6 +36,39 @@ module _ (m : ℕ) (s : List ℕ) (from i : ℕ) (e : find_byte m s i ≡ find_b
   pub search_more : (j : ℕ) → j ≡ i + 1 → i < length s → (get_or s i 0 ≡ m → ⊥) → find_byte m s j ≡ find_byte m s from
   search_more j k h n = ap (find_byte m s) k ∙ (sym (found_later m s i h n) ∙ e)
 
+-- ---- the library's place in the rest of a list
+before_most : (m : ℕ) (l : List ℕ) → before m l ≤ length l
+unfolding before
+before_most m [] = omega arith
+before_most m (c ∷ cs) = either (eqb c m) (λ e. rw e (omega arith)) (λ e. rw e (omega (arith, before_most m cs)))
+
+before_is : (m : ℕ) (l : List ℕ) → before m l ≡ position_or_len (λ b. b == m) l
+unfolding before
+before_is m [] = refl
+before_is m (c ∷ cs) = either (eqb c m) (λ e. rw e) (λ e. rw e (omega (arith, before_is m cs)))
+
+module _ (m : ℕ) (s : List ℕ) (from : ℕ) where
+  abbrev rest : ℕ
+  rest = before m (drop from s)
+
+  place_is : place m (take (length s - from) (drop from s)) ≡ cond (ltb rest (length (drop from s))) (Some rest) None
+  unfolding place
+  place_is = rw (take_all (length s - from) (drop from s) (omega (arith, length-drop from s)), before_is m (drop from s))
+
+  module _ {o : Option ℕ} (e : place m (take (length s - from) (drop from s)) ≡ o) where
+    told : cond (ltb rest (length (drop from s))) (Some rest) None ≡ o
+    told = sym place_is ∙ e
+
+    pub place_found : {i : ℕ} → o ≡ Some i → from + i ≡ find_byte m s from
+    place_found {i} k = either (ltb rest (length (drop from s)))
+        (λ t. let h : Some rest ≡ o = rw t at told in let h : rest ≡ i = cc in omega arith)
+        (λ t. let h : None ≡ o = rw t at told in cc)
+
+    pub place_none : from ≤ length s → o ≡ None → length s ≡ find_byte m s from
+    place_none h k = either (ltb rest (length (drop from s)))
+        (λ t. let h : Some rest ≡ o = rw t at told in cc)
+        (λ t. omega (arith, ltb-false _ _ t, before_most m (drop from s), length-drop from s))
+
 -- ---- what lies up to it: bytes that are not m
 abbrev pub Without : ℕ → List ℕ → Type 0
 Without m [] = Unit {0}
@@ -44,11 +79,6 @@ pub record Ended (m : ℕ) (s : List ℕ) (from r : ℕ) : Type 0 where
   pub high : r ≤ length s
   pub plain : Without m (slice from r s)
   pub mark : r < length s → get_or s r 0 ≡ m
-
-before_most : (m : ℕ) (l : List ℕ) → before m l ≤ length l
-unfolding before
-before_most m [] = omega arith
-before_most m (c ∷ cs) = either (eqb c m) (λ e. rw e (omega arith)) (λ e. rw e (omega (arith, before_most m cs)))
 
 before_plain : (m : ℕ) (l : List ℕ) → Without m (take (before m l) l)
 unfolding before

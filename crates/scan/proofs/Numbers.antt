@@ -1,6 +1,7 @@
 -- The reader's way through fields that are numbers: those that are read, behind them those to read.
-use Rattle.std.proofs.Common.{◌≡◌, ℕ, suc, ◌+◌, ◌<◌, ◌≤◌, Bool, true, false, cond, List, [], ◌∷◌, ◌++◌, length, take, drop, set, ℤ, pos, sym, refl, ap, ◌∙◌, append-nil, add-one, arith, drop_of_length-le, take_all, drop-cons, take-suc-set, drop-set-lt, Option, Some, None}
+use Rattle.std.proofs.Common.{◌≡◌, ℕ, suc, ◌+◌, ◌<◌, ◌≤◌, ltb, ltb-true, ltb-false, Bool, false, cond, List, [], ◌∷◌, ◌++◌, length, take, drop, set, ℤ, pos, sym, refl, ap, ◌∙◌, append-nil, add-one, arith, drop_of_length-le, take_all, drop-cons, take-suc-set, drop-set-lt, Option, Some, None}
 use lib.Seq.{slice, split_at, append_snoc}
+use Rattle.algebra.proofs.Test.{either}
 use Rattle.scan.specs.Decimal.{read_number}
 use Rattle.scan.specs.Fields.{fields_at}
 use Rattle.scan.specs.Numbers.{Numbers, are, none, in_front, numbers, are_there, put_first, stored}
@@ -71,11 +72,8 @@ module _ (l : List ℕ) (into : List ℤ) (i next : ℕ) where
           )
 
   -- ---- all read: no field more
-  module _ (h : length into ≤ i) where
-    pub all_read : length l < next → outcome into i (fields_at l next) ≡ (true, into)
-    unfolding outcome numbers stored
-    all_read k = rw (no_field l next k, drop_of_length-le into h, take_all i into h, append-nil into)
-
-    pub field_left : next ≤ length l → outcome into i (fields_at l next) ≡ (false, into)
-    unfolding outcome numbers stored
-    field_left k = let f = some_field l next k in rw (f.is, drop_of_length-le into h, take_all i into h, append-nil into)
+  pub all_read : length into ≤ i → outcome into i (fields_at l next) ≡ (ltb (length l) next, into)
+  unfolding outcome numbers stored
+  all_read h = either (ltb (length l) next)
+      (λ e. rw (no_field l next (ltb-true _ _ e), e, drop_of_length-le into h, take_all i into h, append-nil into))
+      (λ e. let f = some_field l next (ltb-false _ _ e) in rw (f.is, e, drop_of_length-le into h, take_all i into h, append-nil into))

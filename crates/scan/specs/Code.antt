@@ -1,8 +1,13 @@
 -- Only private contracts cite this: a field read in one pass.
-use Rattle.std.specs.Prelude.{◌≡◌, ℕ, ◌<◌, ◌≤◌, Bool, true, cond, ◌⊎◌, List, length, ◌==◌, nat_lt, slice_index}
+use Rattle.std.specs.Prelude.{◌≡◌, ℕ, ◌<◌, ◌≤◌, Bool, true, cond, List, length, ◌==◌, nat_lt, slice_index, Option, option_map, position}
 use Rattle.std.proofs.Math.Seq.{slice}
+use Rattle.scan.specs.declared.Field.{Field}
 use Rattle.scan.specs.Decimal.{value}
 use Rattle.scan.specs.Find.{find_byte}
+
+-- where a byte stands first, if it does
+unfoldable pub place : ℕ → List ℕ → Option ℕ
+place m s = position (λ b. b == m) s
 
 -- a field ends at i: at a tab, or at the end of s
 abbrev pub ends_at : List ℕ → ℕ → Bool
@@ -16,7 +21,7 @@ pub record Worth (s : List ℕ) (from to v end : ℕ) : Type 0 where
   pub same : value v (slice end (find_byte 9 s from) s) ≡ value 0 (slice from (find_byte 9 s from) s)
   pub other : end < to → 48 ≤ slice_index s end → slice_index s end ≤ 57 → ⊥
 
--- a is what a field reads as that begins at `from`, and unless it is none, the field ends at end
-pub record UpToTab {A : Type 0} (none : A) (read : List ℕ → A) (s : List ℕ) (from : ℕ) (a : A) (end : ℕ) : Type 0 where
-  pub is : a ≡ read (slice from (find_byte 9 s from) s)
-  pub ends : (a ≡ none) ⊎ (end ≡ find_byte 9 s from)
+-- what a field reads as that begins at `from`, with its end; none, where it reads as none
+unfoldable pub field_at : {A : Type 0} → (List ℕ → Option A) → List ℕ → ℕ → Option (Field A)
+field_at read s from =
+    option_map (λ v. record { value = v; end = find_byte 9 s from }) (read (slice from (find_byte 9 s from) s))

@@ -1087,7 +1087,9 @@ const STEP_40_PLUS: [i64; 6] = [
     t::STEP_40_PLUS[2].im,
 ];
 
-// Three rows to an n. A `match` over named rows becomes a read-only table, where a constant array would be written out at each call.
+// Three rows to an n. A `match` over named rows becomes a read-only table, where a constant array would be written out at each call. It stands
+// in the steps' loop, so that its numbers come in registers.
+#[inline(always)]
 pub fn numbers_at(index: usize) -> [i64; 6]
     ensures { entries result ≡ row_at index }
 {

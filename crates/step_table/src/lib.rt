@@ -11,6 +11,7 @@ mod flat48;
 pub mod rows48;
 
 // The row with a number in the one line of rows, three to an n; noughts outside.
+#[inline(always)]
 pub fn row_at(index: usize) -> [Entry; 3]
     ensures { result ≡ row_at index }
 {

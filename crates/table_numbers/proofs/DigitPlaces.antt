@@ -33,6 +33,12 @@ place_word t- = refl
 place_word t0 = refl
 place_word t+ = refl
 
+-- a machine word holds it
+pub trit_word : {d : ℤ} → Trit d → to_z w64 (of_z w64 d) ≡ d
+trit_word t- = refl
+trit_word t0 = refl
+trit_word t+ = refl
+
 -- the code's test of a digit's part
 pub trit_of : (d : ℤ) → between (negsuc 0) (pos 1) d ≡ true → Trit d
 trit_of (negsuc zero) e = t-

@@ -15,7 +15,7 @@ use Rattle.point.specs.Point.{gauss, point, one}
 use Rattle.table_numbers.specs.Table.{step_table, reciprocal_table}
 use Rattle.tables.proofs.Promises.{step_promise, reciprocal_promise}
 use Rattle.iteration.specs.declared.State.{State}
-use Rattle.iteration.specs.declared.Mode.TheVariants.{Log}
+use Rattle.iteration.specs.Select.{Log}
 use Rattle.iteration.specs.Run.{run, Fits}
 use Rattle.logarithm.specs.declared.reduction.Turn.{Turn}
 use Rattle.logarithm.specs.Reduction.{turned, bits, bit_length, binary_exponent_of}

@@ -1,96 +1,71 @@
--- `register::run` meets its contract. The invariant before step k: every state from here on is small, and the steps from k on lead where
--- all lead.
+-- `register::run` meets its contract.
 use mathlib.Core.Path.{◌≡◌, sym, ◌∙◌, ap, subst, subst₂}
+use mathlib.Core.List.{List}
 use Prim.Native.Nat.{ℕ, suc, ◌+◌, ◌-◌, ◌≤◌}
 use native.Mathlib.Omega.{arith}
-use Rattle.word.proofs.Fits.{back, sfits_mag}
+use mir.Syntax.{w64}
+use mir.Val.{SFits, to_z, of_z}
+use borrow.Author.Rules.{rules}
+use Rattle.word.proofs.Fits.{back}
+use Rattle.point.specs.declared.Digit.{Digit}
 use Rattle.point.specs.Point.{gauss, gaussᵈ, digit}
+use Rattle.table_numbers.specs.declared.Entry.{Entry}
 use Rattle.table_numbers.specs.Listed.{by_digit}
 use Rattle.table_numbers.specs.Promise.{look}
 use Rattle.table_numbers.specs.Table.{step_table}
 use Rattle.table_numbers.specs.Rows.{number, none, step_row}
 use Rattle.table_numbers.proofs.RowLaws.{row_entry}
+use Rattle.iteration.specs.declared.State.{State}
 use Rattle.register.specs.Register.{register_select, register_run}
 use Rattle.register.specs.Code.{StepPre, step_of}
 use Rattle.register.proofs.Loop.{onward, run_more, step_is, step_ok}
 use Rattle.register.proofs.run.Goals as goal
-use Rattle.register.proofs.run.Goals.{After-select-d}
-use Rattle.register.proofs.run.Lts as lts
-use Rattle.register.proofs.run.Reads as reads
-use Rattle.register.proofs.run.Tie as tie
 use Rattle.register.proofs.run.Invariants.{Left}
 
-abbrev After-array_row-row : Type 0
-After-array_row-row = lts.After-array_row tie.the-claims reads.Pre reads.Post goal.the-invariant-loop-k goal.the-decreases-loop-k tie.handed_clauses
+-- ---- step k, by the digit of the register and the row for it: what it asks, and what is left after it
+module _ {k n : ℕ} {end s : State} {d : Digit} {row : List Entry} (first : 1 ≤ k) (last : k ≤ n) (left : Left n end s (k - 1))
+    (chosen : d ≡ digit (register_select 48 (gauss s.sum))) (dx : SFits w64 d.dx) (given : row ≡ step_row k (to_z w64 (of_z w64 d.dx))) where
+  -- k is one more than the steps taken
+  counted : suc (k - 1) ≡ k
+  counted = omega (arith, first)
 
--- k is one more than the steps taken
-counted : {k : ℕ} → 1 ≤ k → suc (k - 1) ≡ k
-counted h = omega arith
+  below : suc (k - 1) ≤ n
+  below = omega (arith, first, last)
 
--- the digit of the step, and the entry of its row
-chosen : (c : After-select-d) → let l = c.before.before.before in
-    c.select-d.result ≡ digit (register_select 48 (gauss l.loop-k.s.sum))
-chosen c = c.select-d.ensures
+  found : number (by_digit row none d.dy) ≡ look step_table (suc (k - 1)) (gaussᵈ d)
+  found = ap (λ r. number (by_digit r none d.dy)) (given ∙ (λ i. step_row (sym counted i) (back dx i)))
+      ∙ ap number (row_entry (suc (k - 1)) d.dx d.dy)
 
-found : (c : After-array_row-row) → let s = c.before.before in
-    number (by_digit c.array_row-row.result none s.select-d.result.dy)
-    ≡ look step_table (suc (s.before.before.before.loop-k.k - 1)) (gaussᵈ s.select-d.result)
-found c =
-    let t = c.before in
-    let s = t.before in
-    let l = s.before.before.before in
-    let d = s.select-d.result in
-    let dx = back (sfits_mag d.dx t.struct_told-1.given.0.1) in
-    let row = c.array_row-row.ensures.value ∙ (λ i. step_row (sym (counted l.loop-k.invariant.0) i) (dx i)) in
-    ap (λ r. number (by_digit r none d.dy)) row ∙ ap number (row_entry (suc (l.loop-k.k - 1)) d.dx d.dy)
+  asked : StepPre s d row k
+  asked = subst (StepPre s d row) counted (step_ok 48 step_table (k - 1) s d row chosen found (omega arith) left.0 below)
 
-pub loop-k-init : goal.loop-k-init
-loop-k-init c =
-    let a = c.args in
-    let all : a.n - 0 ≡ a.n = omega arith in
-    (omega arith, (c.requires, ap (λ m. register_run 48 step_table 0 m a.start) all))
+  after : {x : State} → x ≡ step_of s d row k → Left n end x k
+  after {x} made = subst₂ (Left n end)
+      (sym (made ∙ (ap (step_of s d row) (sym counted) ∙ step_is 48 step_table (k - 1) s d row chosen found))) counted
+      (onward left.0 below, sym (run_more left.0 below) ∙ left.1)
 
-pub select-d-requires : goal.select-d-requires
-select-d-requires c = tt
-
-pub array_row-row-requires : goal.array_row-row-requires
-array_row-row-requires c = tt
+-- where no step is left
+ended : {n j : ℕ} {end s : State} → n - j ≡ 0 → Left n end s j → s ≡ end
+unfolding register_run
+ended {j} {s} none l = ap (λ m. register_run 48 step_table j m s) (sym none) ∙ l.1
 
 pub step-s-requires : goal.step-s-requires
 step-s-requires c =
-    let s = c.before.before.before in
-    let l = s.before.before.before in
-    let k = l.loop-k.k in
-    subst (StepPre l.loop-k.s s.select-d.result c.before.array_row-row.result) (counted l.loop-k.invariant.0)
-    (step_ok 48 step_table (k - 1) l.loop-k.s s.select-d.result c.before.array_row-row.result (chosen s) (found c.before)
-    (omega arith) l.loop-k.invariant.1.0 (omega arith))
-
-pub overflow_add-k : goal.overflow_add-k
-overflow_add-k c = let l = c.before.before.before.before.before.before in omega (arith, l.loop-k.invariant.1.0.most)
-
-pub loop-k-smaller : goal.loop-k-smaller
-loop-k-smaller c = omega arith
+    let dx : SFits w64 c.select-d.result.dx = search rules in
+    asked c.loop-k.auto.k c.loop-k-test.true c.loop-k.invariant c.select-d.ensures dx c.array_row-row.ensures.value
 
 pub loop-k-preserved : goal.loop-k-preserved
 loop-k-preserved c =
-    let r = c.before in
-    let s = r.before.before in
-    let l = s.before.before.before in
-    let a = l.before.args in
-    let k = l.loop-k.k in
-    let f = l.loop-k.invariant.1.0 in
-    let made = c.step-s.ensures ∙ (ap (step_of l.loop-k.s s.select-d.result r.array_row-row.result) (sym (counted l.loop-k.invariant.0))
-    ∙ step_is 48 step_table (k - 1) l.loop-k.s s.select-d.result r.array_row-row.result (chosen s) (found r)) in
-    let same : suc (k - 1) ≡ k + 1 - 1 = omega (arith, l.loop-k.invariant.0) in (
-      omega arith,
-      subst₂ (Left a.n (register_run 48 step_table 0 a.n a.start)) (sym made) same
-          (onward f (omega (arith, l.loop-k.invariant.0)), sym (run_more f (omega (arith, l.loop-k.invariant.0))) ∙ l.loop-k.invariant.1.1),
-    )
+    let dx : SFits w64 c.select-d.result.dx = search rules in
+    let here : c.loop-k.k ≡ c.loop-k.k + 1 - 1 = omega arith in
+    subst (Left c.args.n (register_run 48 step_table 0 c.args.n c.args.start) c.step-s.result) here
+    (after c.loop-k.auto.k c.loop-k-test.true c.loop-k.invariant c.select-d.ensures dx c.array_row-row.ensures.value c.step-s.ensures)
 
 pub returns : goal.returns
-unfolding register_run
-returns c =
-    let l = c.before in
-    let a = l.before.args in
-    let none : 0 ≡ a.n - (l.loop-k.k - 1) = omega (arith, l.loop-k.invariant.0) in
-    ap (λ m. register_run 48 step_table (l.loop-k.k - 1) m l.loop-k.s) none ∙ l.loop-k.invariant.1.1
+returns c = ended (omega arith) c.loop-k.invariant
+
+pub returns-2 : goal.returns-2
+returns-2 c =
+    let dx : SFits w64 c.select-d.result.dx = search rules in
+    let none : c.args.n - c.loop-k.k ≡ 0 = omega arith in
+    ended none (after c.loop-k.auto.k c.loop-k-test.true c.loop-k.invariant c.select-d.ensures dx c.array_row-row.ensures.value c.step-s.ensures)

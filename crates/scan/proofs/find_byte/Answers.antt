@@ -1,82 +1,25 @@
--- `scan::find_byte` meets its contract: from each place on, the byte is found where it is found from `from` on.
-use Rattle.std.proofs.Common.{◌+◌, sym, refl, arith}
-use Rattle.scan.proofs.Find.{found_none, search_ends, search_over, search_more}
+-- `scan::find_byte` meets its contract: the library's place in the rest of the slice.
+use Rattle.std.proofs.Common.{rules, ◌≡◌, ◌-◌, drop, take, length, sym, arith}
+use Rattle.scan.specs.Code.{place}
+use Rattle.scan.proofs.Find.{ended, found_none, place_found, place_none}
 use Rattle.scan.proofs.find_byte.Goals as goal
+use Rattle.scan.proofs.find_byte.Goals.{After-first}
 
 pub returns-then-s-from : goal.returns-then-s-from
 returns-then-s-from c = sym (found_none c.args.byte c.args.s.now c.args.from (omega (arith, c.if-s-from.true)))
 
-pub loop-i-init : goal.loop-i-init
-loop-i-init c = (omega arith, refl)
+-- in the rest of the slice
+first_place : (c : After-first) → c.first.result ≡ place c.args.byte (take (length c.args.s.now - c.args.from) (drop c.args.from c.args.s.now))
+first_place c = search rules
 
--- ---- four bytes, one after the other
-pub returns-then-s-i : goal.returns-then-s-i
-returns-then-s-i c =
-    let b = c.args.byte in
-    let s = c.args.s.now in
-    let from = c.args.from in
-    let i = c.loop-i.i in
-    search_ends b s from i c.loop-i.invariant.1 (omega arith) c.if-s-i.true
+pub overflow_add-result : goal.overflow_add-result
+overflow_add-result c =
+    let found = place_found c.args.byte c.args.s.now c.args.from (sym (first_place (goal.at.overflow_add-result c).After-first)) c.in-Some.is in
+    omega (arith, (ended {m = c.args.byte} {s = c.args.s.now} {from = c.args.from} c.if-s-from.false found).high)
 
-pub returns-then-s-i-2 : goal.returns-then-s-i-2
-returns-then-s-i-2 c =
-    let b = c.args.byte in
-    let s = c.args.s.now in
-    let from = c.args.from in
-    let i = c.loop-i.i in
-    let one = search_more b s from i c.loop-i.invariant.1 (i + 1) (omega arith) (omega arith) c.if-s-i.false in
-    search_ends b s from (i + 1) one (omega arith) c.if-s-i-2.true
+pub returns-in-Some : goal.returns-in-Some
+returns-in-Some c = place_found c.args.byte c.args.s.now c.args.from (sym (first_place (goal.at.returns-in-Some c).After-first)) c.in-Some.is
 
-pub returns-then-s-i-3 : goal.returns-then-s-i-3
-returns-then-s-i-3 c =
-    let b = c.args.byte in
-    let s = c.args.s.now in
-    let from = c.args.from in
-    let i = c.loop-i.i in
-    let one = search_more b s from i c.loop-i.invariant.1 (i + 1) (omega arith) (omega arith) c.if-s-i.false in
-    let two = search_more b s from (i + 1) one (i + 2) (omega arith) (omega arith) c.if-s-i-2.false in
-    search_ends b s from (i + 2) two (omega arith) c.if-s-i-3.true
-
-pub returns-then-s-i-4 : goal.returns-then-s-i-4
-returns-then-s-i-4 c =
-    let b = c.args.byte in
-    let s = c.args.s.now in
-    let from = c.args.from in
-    let i = c.loop-i.i in
-    let one = search_more b s from i c.loop-i.invariant.1 (i + 1) (omega arith) (omega arith) c.if-s-i.false in
-    let two = search_more b s from (i + 1) one (i + 2) (omega arith) (omega arith) c.if-s-i-2.false in
-    let three = search_more b s from (i + 2) two (i + 3) (omega arith) (omega arith) c.if-s-i-3.false in
-    search_ends b s from (i + 3) three (omega arith) c.if-s-i-4.true
-
-pub loop-i-smaller : goal.loop-i-smaller
-loop-i-smaller c = omega arith
-
-pub loop-i-preserved : goal.loop-i-preserved
-loop-i-preserved c =
-    let b = c.args.byte in
-    let s = c.args.s.now in
-    let from = c.args.from in
-    let i = c.loop-i.i in
-    let one = search_more b s from i c.loop-i.invariant.1 (i + 1) (omega arith) (omega arith) c.if-s-i.false in
-    let two = search_more b s from (i + 1) one (i + 2) (omega arith) (omega arith) c.if-s-i-2.false in
-    let three = search_more b s from (i + 2) two (i + 3) (omega arith) (omega arith) c.if-s-i-3.false in
-    let four = search_more b s from (i + 3) three (i + 4) (omega arith) (omega arith) c.if-s-i-4.false in
-    (omega arith, four)
-
--- ---- the last ones
-pub loop-i-2-init : goal.loop-i-2-init
-loop-i-2-init c = c.loop-i.invariant.1
-
-pub returns-then-s-i-5 : goal.returns-then-s-i-5
-returns-then-s-i-5 c =
-    search_ends c.args.byte c.args.s.now c.args.from c.loop-i-2.i c.loop-i-2.invariant (omega arith) c.if-s-i-5.true
-
-pub loop-i-2-smaller : goal.loop-i-2-smaller
-loop-i-2-smaller c = omega arith
-
-pub loop-i-2-preserved : goal.loop-i-2-preserved
-loop-i-2-preserved c =
-    search_more c.args.byte c.args.s.now c.args.from c.loop-i-2.i c.loop-i-2.invariant _ refl (omega arith) c.if-s-i-5.false
-
-pub returns : goal.returns
-returns c = search_over c.args.byte c.args.s.now c.args.from c.loop-i-2.i c.loop-i-2.invariant (omega arith)
+pub returns-in-None : goal.returns-in-None
+returns-in-None c =
+    place_none c.args.byte c.args.s.now c.args.from (sym (first_place (goal.at.returns-in-None c).After-first)) (omega arith) c.in-None.is

@@ -1,15 +1,8 @@
 -- `logarithm::reduction::negated` meets its contract.
-use borrow.Author.Rules.{rules}
 use Rattle.algebra.specs.Gauss.{negᵍ}
 use Rattle.word.proofs.Fits.{back, zero_sub}
 use Rattle.point.proofs.Fits.{point_fits}
 use Rattle.logarithm.proofs.reduction.negated.Goals as goal
-
-pub overflow_sub-result : goal.overflow_sub-result
-overflow_sub-result c = let f = point_fits c.before.before.requires in search rules
-
-pub overflow_sub-result-2 : goal.overflow_sub-result-2
-overflow_sub-result-2 c = let f = point_fits c.before.before.requires in search rules
 
 pub returns : goal.returns
 unfolding negᵍ
