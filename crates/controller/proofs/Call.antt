@@ -12,7 +12,7 @@ use Rattle.word.proofs.Fits.{back, sfits_mag, zero_sub}
 use Rattle.buffer.specs.Words.{encode}
 use Rattle.buffer.proofs.Words.{length_encode}
 use Rattle.buffer.proofs.Fitting.{Fitted, fitted_front}
-use Rattle.answer.specs.declared.Answer.{Answer}
+use Rattle.answer.specs.Answer.{Answer}
 use Rattle.answer.specs.Record.{record_of}
 use Rattle.logarithm.specs.Answer.{log_answer}
 use Rattle.book.specs.declared.Book.{Book}

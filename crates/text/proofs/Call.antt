@@ -14,8 +14,8 @@ use Rattle.algebra.specs.Order.{◌⩽◌}
 use Rattle.word.proofs.Fits.{back, sfits_mag}
 use Rattle.buffer.proofs.Fitting.{Fitted, fitted_front}
 use Rattle.answer.specs.declared.Refusal.{Refusal}
-use Rattle.answer.specs.declared.Answer.{Answer}
-use Rattle.answer.specs.declared.Answer.TheVariants.{Answered, Refused}
+use Rattle.answer.specs.Answer.{Answer}
+use Rattle.std.specs.Prelude.{Ok, Err}
 use Rattle.answer.specs.Refusal.{refusal_number}
 use Rattle.answer.specs.Record.{record_of}
 use Rattle.text.specs.declared.Kind.{Kind}
@@ -46,11 +46,11 @@ turned_away r serial kind zs {number} s n e a = rw (refused_reply_lem r serial k
 -- ---- by itself a line is answered, or refused with 1 to 5
 own_figures : (k : Kind) (serial n : ℤ) (a : Answer) → let r = (answer_reply k serial n (record_of a)).refusal in (pos 0 ⩽ r) × (r ⩽ pos 5)
 unfolding record_of
-own_figures k serial n (Answered f) = (le_z_yes tt, le_z_yes tt)
-own_figures k serial n (Refused why.Steps) = (le_z_yes tt, le_z_yes tt)
-own_figures k serial n (Refused why.Exponent) = (le_z_yes tt, le_z_yes tt)
-own_figures k serial n (Refused why.Part) = (le_z_yes tt, le_z_yes tt)
-own_figures k serial n (Refused why.Zero) = (le_z_yes tt, le_z_yes tt)
+own_figures k serial n (Ok f) = (le_z_yes tt, le_z_yes tt)
+own_figures k serial n (Err why.Steps) = (le_z_yes tt, le_z_yes tt)
+own_figures k serial n (Err why.Exponent) = (le_z_yes tt, le_z_yes tt)
+own_figures k serial n (Err why.Part) = (le_z_yes tt, le_z_yes tt)
+own_figures k serial n (Err why.Zero) = (le_z_yes tt, le_z_yes tt)
 
 pub own_refusal : (l : Line) → (pos 0 ⩽ (reply_of l).refusal) × ((reply_of l).refusal ⩽ pos 5)
 unfolding reply_of

@@ -1,6 +1,6 @@
 -- THE ROOM of an answer line: a width for each figure, and their sum. Every answer line fits 128 bytes; to a line that is read, whose serial
 -- has at most 7 digits, it has at most 115 bytes for EXP and 107 for LOG.
-use Rattle.std.specs.Prelude.{Option, Some, None}
+use Rattle.std.specs.Prelude.{Option, Some, None, Ok, Err}
 use mathlib.Core.Path.{◌≡◌, refl}
 use mathlib.Core.List.{List, [], ◌∷◌}
 use Prim.Native.Nat.{ℕ, suc, ◌+◌, ◌^◌, ◌≤◌}
@@ -23,8 +23,7 @@ use Rattle.buffer.proofs.Written.{short, short_number, short_range}
 use Rattle.buffer.proofs.Lines.{line_length}
 use Rattle.point.specs.declared.Point.{Point}
 use Rattle.answer.specs.declared.Refusal.TheVariants.{Steps, Exponent, Part, Zero}
-use Rattle.answer.specs.declared.Answer.{Answer}
-use Rattle.answer.specs.declared.Answer.TheVariants.{Answered, Refused}
+use Rattle.answer.specs.Answer.{Answer}
 use Rattle.answer.specs.Record.{record_of}
 use Rattle.exponential.specs.Answer.{exp_answer}
 use Rattle.exponential.proofs.Ranges.{Ranged as ExpRanged, exp_ranges}
@@ -94,12 +93,12 @@ widths_of kind.Log = log_widths
 
 -- the fields of an answer, if there is one, take at most their widths
 abbrev pub Fitting : Kind → ℤ → Answer → Type 0
-Fitting k n (Answered f) = Widths (widths_of k) (fields_of k n (record_of (Answered f)))
-Fitting k n (Refused r) = Unit {0}
+Fitting k n (Ok f) = Widths (widths_of k) (fields_of k n (record_of (Ok f)))
+Fitting k n (Err r) = Unit {0}
 
 exp_widths_lem : (n : ℤ) (a : Answer) → ExpRanged 48 n a → Fitting kind.Exp n a
 unfolding record_of
-exp_widths_lem n (Answered f) r =
+exp_widths_lem n (Ok f) r =
     short_span 0 n r.steps_low r.steps_high tt tt
     and short_span 18 f.value.x r.value.re.lo r.value.re.hi tt tt
     and short_span 18 f.value.y r.value.im.lo r.value.im.hi tt tt
@@ -108,11 +107,11 @@ exp_widths_lem n (Answered f) r =
     and short_span 1 f.binary_exponent r.exponent.lo r.exponent.hi tt tt
     and short_span 17 f.error_bound r.bound_low r.bound_high tt tt
     and end
-exp_widths_lem n (Refused r) h = tt
+exp_widths_lem n (Err r) h = tt
 
 log_widths_lem : (n : ℤ) (p : 𝔾) (a : Answer) → LogRanged 48 n p a → Fitting kind.Log n a
 unfolding record_of
-log_widths_lem n p (Answered f) r =
+log_widths_lem n p (Ok f) r =
     short_span 0 n r.steps_low r.steps_high tt tt
     and short_span 14 f.value.x r.value.re.lo r.value.re.hi tt tt
     and short_span 14 f.value.y r.value.im.lo r.value.im.hi tt tt
@@ -122,7 +121,7 @@ log_widths_lem n p (Answered f) r =
     and short_span 0 f.quadrant r.quadrant_low r.quadrant_high tt tt
     and short_span 16 f.error_bound r.bound_low r.bound_high tt tt
     and end
-log_widths_lem n p (Refused r) h = tt
+log_widths_lem n p (Err r) h = tt
 
 pub exp_fitting : (n ex ey sx sy : ℤ) → Fitting kind.Exp n (exp_answer n ex ey sx sy)
 exp_fitting n ex ey sx sy = exp_widths_lem n (exp_answer n ex ey sx sy) (exp_ranges n ex ey sx sy)
@@ -153,12 +152,12 @@ refused_fits kind.Log serial f g = omega (arith, refused_bytes serial f g)
 answer_bytes : (k : Kind) (serial n : ℤ) (a : Answer) {w : ℕ} → length (show_number serial) ≤ w → Fitting k n a →
     length (answer_reply k serial n (record_of a)).bytes ≤ answer_most w k
 unfolding record_of
-answer_bytes kind.Exp serial n (Answered f) s h = line_fits serial _ refl s h
-answer_bytes kind.Log serial n (Answered f) s h = line_fits serial _ refl s h
-answer_bytes k serial n (Refused Steps) s h = refused_fits k serial s (sfits_pos (lit< tt))
-answer_bytes k serial n (Refused Exponent) s h = refused_fits k serial s (sfits_pos (lit< tt))
-answer_bytes k serial n (Refused Part) s h = refused_fits k serial s (sfits_pos (lit< tt))
-answer_bytes k serial n (Refused Zero) s h = refused_fits k serial s (sfits_pos (lit< tt))
+answer_bytes kind.Exp serial n (Ok f) s h = line_fits serial _ refl s h
+answer_bytes kind.Log serial n (Ok f) s h = line_fits serial _ refl s h
+answer_bytes k serial n (Err Steps) s h = refused_fits k serial s (sfits_pos (lit< tt))
+answer_bytes k serial n (Err Exponent) s h = refused_fits k serial s (sfits_pos (lit< tt))
+answer_bytes k serial n (Err Part) s h = refused_fits k serial s (sfits_pos (lit< tt))
+answer_bytes k serial n (Err Zero) s h = refused_fits k serial s (sfits_pos (lit< tt))
 
 exp_bytes : (serial n : ℤ) (exponent start : Point) {w : ℕ} → length (show_number serial) ≤ w →
     length (reply_of (line.Exp serial n exponent start)).bytes ≤ answer_most w kind.Exp

@@ -1,7 +1,7 @@
 // Lines of a sheet: a line read, and a read line answered.
 #![tactic(auto)]
 
-ghost use Rattle.std.specs.Prelude.{◌≡◌, pos};
+ghost use Rattle.std.specs.Prelude.{◌≡◌, pos, Ok};
 ghost use Rattle.scan.specs.Fields.{fields_at};
 ghost use Rattle.scan.specs.Numbers.{numbers};
 ghost use Rattle.answer.specs.Record.{record_of};
@@ -9,7 +9,7 @@ ghost use Rattle.text.specs.Line.{formed, exp_of, log_of, kind_line, read_line, 
 ghost use Rattle.text.specs.Answer.{refused_reply, answer_reply, reply_of, reply, refusal_for, count_for, out_for};
 ghost use Rattle.text.specs.Code.{Replied};
 
-use answer::{Answer, Figures};
+use answer::{Figures, Refusal};
 use point::Point;
 
 // The least room for the answer to a line.
@@ -152,37 +152,49 @@ fn refused(serial: i64, refusal: i64, out: &mut [u8]) -> LineAnswer
 
 // The figures of an answer, as a line of its kind.
 fn put_figures(kind: Kind, serial: i64, n: i64, f: Figures, out: &mut [u8]) -> usize
-    ensures { Replied (answer_reply kind serial n (record_of (Answer.Answered f))) out.old out.new (pos 0) result }
+    ensures { Replied (answer_reply kind serial n (record_of (Ok f))) out.old out.new (pos 0) result }
 {
-    let r = Answer::Answered(f).record();
+    let Figures {
+        value: Point { x, y },
+        binary_exponent: k,
+        quadrant: q,
+        error_bound,
+        remainder: Point {
+            x: left_x,
+            y: left_y,
+        },
+    } = f;
     match kind {
         Kind::Exp => {
-            let fields = [n, r[1], r[2], r[6], r[7], r[3], r[5]];
+            let fields = [n, x, y, left_x, left_y, k, error_bound];
             buffer::put_line(serial, b"EXP", &fields, out, 0)
         }
         Kind::Log => {
-            let fields = [n, r[1], r[2], r[6], r[7], r[3], r[4], r[5]];
+            let fields = [n, x, y, left_x, left_y, k, q, error_bound];
             buffer::put_line(serial, b"LOG", &fields, out, 0)
         }
     }
 }
 
 // An answer of either kind.
-fn put_answer(kind: Kind, serial: i64, n: i64, answer: Answer, out: &mut [u8]) -> LineAnswer
+fn put_answer(
+    kind: Kind,
+    serial: i64,
+    n: i64,
+    answer: Result<Figures, Refusal>,
+    out: &mut [u8],
+) -> LineAnswer
     ensures { Replied (answer_reply kind serial n (record_of answer)) out.old out.new result.refusal result.written }
 {
     match answer {
-        Answer::Answered(f) => {
+        Ok(f) => {
             let written = put_figures(kind, serial, n, f, out);
             LineAnswer {
                 refusal: 0,
                 written,
             }
         }
-        Answer::Refused(r) => {
-            let number = r.number();
-            refused(serial, number, out)
-        }
+        Err(r) => refused(serial, i64::from(r), out),
     }
 }
 

@@ -4,13 +4,13 @@ use Rattle.answer.specs.Record.{record_of}
 use Rattle.text.proofs.Call.{turned_away}
 use Rattle.text.proofs.put_answer.Goals as goal
 
-pub returns-in-Answered : goal.returns-in-Answered
+pub returns-in-Ok : goal.returns-in-Ok
 unfolding record_of
-returns-in-Answered c =
-    rw c.in-Answered.is (rw (back c.ranges.serial, back c.ranges.n) at c.put_figures-written.ensures)
+returns-in-Ok c =
+    rw c.in-Ok.is (rw (back c.ranges.serial, back c.ranges.n) at c.put_figures-written.ensures)
 
-pub returns-in-Refused : goal.returns-in-Refused
+pub returns-in-Err : goal.returns-in-Err
 unfolding record_of
-returns-in-Refused c =
-    rw c.in-Refused.is
-    (turned_away c.in-Refused.r _ _ _ c.ranges.serial c.number-number.type_inv c.number-number.ensures c.refused.ensures)
+returns-in-Err c =
+    rw c.in-Err.is
+    (turned_away c.in-Err.r _ _ _ c.ranges.serial c.from.type_inv c.from.ensures c.refused.ensures)
