@@ -1,5 +1,5 @@
 -- What is known of a written number: its digits one by one, and how many bytes it takes.
-use mathlib.Core.Path.{◌≡◌, refl, ap, subst}
+use mathlib.Core.Path.{◌≡◌, refl, sym, ap, subst, ◌∙◌}
 use mathlib.Core.Bool.{true, false}
 use mathlib.Core.List.{List, [], ◌∷◌, ◌++◌}
 use mathlib.Core.Logic.{◌⊎◌, inl, inr, ⊎_elim}
@@ -11,10 +11,13 @@ use lib.IntN.{ℤ, pos, negsuc, nat_abs}
 use lib.ListN.{length, length-append}
 use lib.Signed.{lt_z, nat_abs-le}
 use mir.Syntax.{w64}
-use mir.Val.{SFits}
+use mir.Val.{SFits, to_z, of_z}
 use borrow.Author.Tests.{lt-ltb, le-ltb, ltb-true, ltb-false}
+use Rattle.std.specs.Fmt.{decimal, signed_decimal}
+use Rattle.std.proofs.lemmas.Fmt.{AppendsLastDigit, decimal_from_appends, length-decimal-le_succ}
 use Rattle.algebra.specs.Order.{◌⩽◌}
 use Rattle.algebra.proofs.Test.{either}
+use Rattle.word.proofs.Fits.{back}
 use Rattle.word.specs.Compare.{between}
 use Rattle.word.proofs.Compare.{between_true}
 use Rattle.buffer.specs.Decimal.{digits, show_natural, show_number}
@@ -64,6 +67,24 @@ digits_ind P one more v = below (suc v) v (omega arith)
         ⊎_elim (λ w. rw (digits_one v w) (one v w))
         (λ w. rw (digits_more v w) (more v (show_natural (v / 10)) w (below f (v / 10) (omega arith))))
         (small_or v)
+
+-- ---- std's digits are these
+appends : AppendsLastDigit digits
+unfolding digits
+appends = record { one = λ k n h. rw (lt-ltb n 10 h); more = λ k n h. rw (le-ltb n 10 h) }
+
+natural_is : (n : ℕ) → n < 2 ^ 64 → show_natural n ≡ decimal n
+unfolding show_natural
+natural_is n h = decimal_from_appends digits appends (suc n) n h (omega (arith, length-decimal-le_succ n h))
+
+pub number_is : (z : ℤ) → SFits w64 z → show_number z ≡ signed_decimal z
+unfolding show_number
+number_is (pos n) f = natural_is n (omega (arith, f.sfits))
+number_is (negsuc n) f = ap (λ (l : List ℕ). 45 ∷ l) (natural_is (suc n) (omega (arith, f.sfits)))
+
+-- as a call of std's tells it
+pub text_is : (z : ℤ) (ds : List ℕ) → SFits w64 z → ds ≡ signed_decimal (to_z w64 (of_z w64 z)) → ds ≡ show_number z
+text_is z ds f e = e ∙ rw (back f) (sym (number_is z f))
 
 div_small : (k v : ℕ) → v < 10 ^ suc k → v / 10 < 10 ^ k
 div_small k v h = (div-lt_iff_lt-mul (lit< tt)).1 (rw pow-suc at h)
