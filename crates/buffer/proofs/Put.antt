@@ -4,7 +4,7 @@ use mathlib.Core.List.{List, [], ◌∷◌, ◌++◌, append_assoc}
 use Prim.Native.Nat.{ℕ, suc, ◌+◌, ◌-◌, ◌≤◌}
 use native.Mathlib.Nat.{le_refl, add-suc, suc-add, add-zero, zero-add, add_assoc}
 use native.Mathlib.Omega.{arith}
-use lib.ListN.{length, set, take, drop, length-append, length-drop}
+use lib.ListN.{length, set, take, drop, length-append, length-drop, take-append-drop}
 use lib.Seq.{sets, length-sets, sets-eq, take_all}
 use borrow.Rule.Slice.PartMut.{mid_of, put_mid, Post-is}
 use Rattle.buffer.specs.Code.{Put, Front}
@@ -46,6 +46,18 @@ both xs ys e = ap length e ∙ length-append xs ys
 -- a run from the front
 pub to_front : {b xs b' : List ℕ} {end : ℕ} → Put b 0 xs b' end → length xs ≤ length b → Front xs b b' end
 to_front {b} {xs} p h = record { bytes = p.bytes ∙ (sets-eq xs b 0 (rw zero-add h) ∙ rw zero-add); count = omega (arith, p.after) }
+
+-- a run whose front and back are told apart
+pub placed : {b : List ℕ} {at : ℕ} {xs b' : List ℕ} {end : ℕ} (start : ℕ) → end ≤ length b → start + length xs ≡ end → at + length xs ≡ end →
+    drop start b' ≡ xs ++ drop end b → take start b' ≡ take start b → Put b at xs b' end
+placed {b} {at} {xs} {b'} {end} start room e h back front =
+    let same : start ≡ at = omega arith in
+    let before = rw same at front in
+    let behind = rw (same, ← h) at back in
+    record {
+      bytes = sym (take-append-drop at b') ∙ (rw (before, behind) (sym (append_assoc (take at b) xs (drop (at + length xs) b)) ∙ sym (sets-eq xs b at (omega arith))));
+      after = sym h;
+    }
 
 -- bytes copied into the part of a buffer that they fill
 pub copied : (b : List ℕ) (at : ℕ) (xs : List ℕ) {part : List ℕ} → at + length xs ≤ length b → part ≡ xs →

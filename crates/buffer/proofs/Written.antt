@@ -1,9 +1,9 @@
 -- What is known of a written number: its digits one by one, and how many bytes it takes.
-use mathlib.Core.Path.{◌≡◌, refl, sym, ap, subst, ◌∙◌}
+use mathlib.Core.Path.{◌≡◌, refl, sym, ap, subst}
 use mathlib.Core.Bool.{true, false}
 use mathlib.Core.List.{List, [], ◌∷◌, ◌++◌}
 use mathlib.Core.Logic.{◌⊎◌, inl, inr, ⊎_elim}
-use Prim.Native.Nat.{ℕ, zero, suc, ◌+◌, ◌/◌, ◌%◌, ◌^◌, ◌≤◌, ◌<◌}
+use Prim.Native.Nat.{ℕ, zero, suc, ◌+◌, ◌*◌, ◌/◌, ◌%◌, ◌^◌, ◌≤◌, ◌<◌, max}
 use native.Mathlib.Omega.{arith}
 use native.Mathlib.Nat.{pow-suc, div-lt_iff_lt-mul}
 use lib.Dec.{T, ltb, lit<, leb→le}
@@ -11,13 +11,12 @@ use lib.IntN.{ℤ, pos, negsuc, nat_abs}
 use lib.ListN.{length, length-append}
 use lib.Signed.{lt_z, nat_abs-le}
 use mir.Syntax.{w64}
-use mir.Val.{SFits, to_z, of_z}
+use mir.Val.{SFits}
 use borrow.Author.Tests.{lt-ltb, le-ltb, ltb-true, ltb-false}
-use Rattle.std.specs.Fmt.{decimal, signed_decimal}
+use Rattle.std.specs.Fmt.{decimal}
 use Rattle.std.proofs.lemmas.Fmt.{AppendsLastDigit, decimal_from_appends, length-decimal-le_succ}
 use Rattle.algebra.specs.Order.{◌⩽◌}
 use Rattle.algebra.proofs.Test.{either}
-use Rattle.word.proofs.Fits.{back}
 use Rattle.word.specs.Compare.{between}
 use Rattle.word.proofs.Compare.{between_true}
 use Rattle.buffer.specs.Decimal.{digits, show_natural, show_number}
@@ -69,22 +68,17 @@ digits_ind P one more v = below (suc v) v (omega arith)
         (small_or v)
 
 -- ---- std's digits are these
+pow-pos : (k : ℕ) → 0 < 10 ^ k
+pow-pos zero = lit< tt
+pow-pos (suc k) = let p = pow-pos k in rw pow-suc (omega arith)
+
 appends : AppendsLastDigit digits
 unfolding digits
 appends = record { one = λ k n h. rw (lt-ltb n 10 h); more = λ k n h. rw (le-ltb n 10 h) }
 
-natural_is : (n : ℕ) → n < 2 ^ 64 → show_natural n ≡ decimal n
+pub natural_is : (n : ℕ) → n < 2 ^ 64 → show_natural n ≡ decimal n
 unfolding show_natural
 natural_is n h = decimal_from_appends digits appends (suc n) n h (omega (arith, length-decimal-le_succ n h))
-
-pub number_is : (z : ℤ) → SFits w64 z → show_number z ≡ signed_decimal z
-unfolding show_number
-number_is (pos n) f = natural_is n (omega (arith, f.sfits))
-number_is (negsuc n) f = ap (λ (l : List ℕ). 45 ∷ l) (natural_is (suc n) (omega (arith, f.sfits)))
-
--- as a call of std's tells it
-pub text_is : (z : ℤ) (ds : List ℕ) → SFits w64 z → ds ≡ signed_decimal (to_z w64 (of_z w64 z)) → ds ≡ show_number z
-text_is z ds f e = e ∙ rw (back f) (sym (number_is z f))
 
 div_small : (k v : ℕ) → v < 10 ^ suc k → v / 10 < 10 ^ k
 div_small k v h = (div-lt_iff_lt-mul (lit< tt)).1 (rw pow-suc at h)
@@ -105,6 +99,32 @@ short k v h = digits_ind P one more v k h
         bad : 10 ≤ v → v < 10 ^ 1 → ⊥
         bad h g = omega arith
     more v l h r (suc k) g = simp length-append (omega (arith, r k (div_small (suc k) v g)))
+
+long : (k v : ℕ) → 10 ^ k ≤ v → suc k ≤ length (show_natural v)
+long k v h = digits_ind P one more v k h
+  where
+    P : ℕ → List ℕ → Type 0
+    P v l = (k : ℕ) → 10 ^ k ≤ v → suc k ≤ length l
+
+    one : (v : ℕ) → v < 10 → P v ((48 + v) ∷ [])
+    one v h zero g = omega arith
+    one v h (suc k) g = absurd (bad h (rw pow-suc at g) (pow-pos k))
+      where
+        bad : v < 10 → 10 ^ k * 10 ≤ v → 0 < 10 ^ k → ⊥
+        bad h g p = omega arith
+
+    more : (v : ℕ) (l : List ℕ) → 10 ≤ v → P (v / 10) l → P v (l ++ (48 + v % 10) ∷ [])
+    more v l h r zero g = simp length-append (omega arith)
+    more v l h r (suc k) g = let q = rw pow-suc at g in simp length-append (omega (arith, r k (omega arith)))
+
+-- as the logarithm tells it
+pub length_is : (v k : ℕ) → 10 ^ k ≤ max v 1 → max v 1 < 10 * 10 ^ k → k + 1 ≡ length (show_natural v)
+length_is zero zero h g = sym (ap length (digits_one 0 (lit< tt)))
+length_is zero (suc k) h g = let q = rw pow-suc at h in absurd (bad q (pow-pos k))
+  where
+    bad : 10 ^ k * 10 ≤ 1 → 0 < 10 ^ k → ⊥
+    bad h p = omega arith
+length_is (suc v) k h g = omega (arith, long k (suc v) (omega arith), short k (suc v) (rw pow-suc (omega arith)))
 
 pub length_one : (v : ℕ) → v < 10 → length (show_natural v) ≡ 1
 length_one v h = rw (digits_one v h)

@@ -4,13 +4,13 @@
 
 ghost use Rattle.std.specs.Prelude.{◌≡◌, ◌+◌, ◌*◌, ◌<◌, ◌≤◌, ◌↔◌, length, IsTrue, MatchOption};
 ghost use Rattle.std.proofs.lemmas.List.Edits.{sets};
-ghost use Rattle.buffer.specs.Decimal.{show_number};
+ghost use Rattle.buffer.specs.Decimal.{show_natural, show_number};
 ghost use Rattle.buffer.specs.Lines.{field_bytes, line_bytes};
 ghost use Rattle.buffer.specs.Words.{encode};
 ghost use Rattle.buffer.specs.Fitting.{fitting};
 ghost use Rattle.buffer.specs.Code.{Put};
 
-use itoa::Buffer;
+use itoa::write_digits;
 
 // ---- where there is room
 
@@ -23,13 +23,27 @@ fn write_bytes(bytes: &[u8], out: &mut [u8], at: usize) -> usize
     end
 }
 
-#[tactic(auto, using(crate::proofs::Written::text_is))]
+// The digits of v.
+fn write_natural(v: u64, out: &mut [u8], at: usize) -> usize
+    requires { at + length (show_natural v) ≤ length out.old }
+    ensures { Put out.old at (show_natural v) out.new result }
+{
+    let end = at + natural_length(v);
+    write_digits(v, out, end);
+    end
+}
+
+#[tactic(auto, using(crate::proofs::Written::show_minus, crate::proofs::Written::show_plus, word::proofs::Fits::back))]
 fn write_number(z: i64, out: &mut [u8], at: usize) -> usize
     requires { at + length (show_number z) ≤ length out.old }
     ensures { Put out.old at (show_number z) out.new result }
 {
-    let mut digits = Buffer::new();
-    write_bytes(digits.format(z).as_bytes(), out, at)
+    let v = z.unsigned_abs();
+    if z < 0 {
+        out[at] = b'-';
+        return write_natural(v, out, at + 1);
+    }
+    write_natural(v, out, at)
 }
 
 // Each number behind a tab.
@@ -73,13 +87,21 @@ fn write_words(numbers: &[i64], out: &mut [u8], at: usize) -> usize
 // -2^63 is the longest number.
 const LONGEST: usize = 20;
 
-#[tactic(auto, using(crate::proofs::Written::text_is))]
-fn number_length(z: i64) -> usize
-    ensures count { result ≡ length (show_number z) }
+#[tactic(auto, using(crate::proofs::Written::length_is))]
+fn natural_length(v: u64) -> usize
+    ensures count { result ≡ length (show_natural v) }
     ensures short { result ≤ 20 }
 {
-    let mut digits = Buffer::new();
-    digits.format(z).len()
+    v.max(1).ilog10() as usize + 1
+}
+
+#[tactic(auto, using(crate::proofs::Written::show_minus, crate::proofs::Written::show_plus, word::proofs::Fits::back))]
+fn number_length(z: i64) -> usize
+    ensures count { result ≡ length (show_number z) }
+    ensures short { result ≤ 21 }
+{
+    let n = natural_length(z.unsigned_abs());
+    if z < 0 { n + 1 } else { n }
 }
 
 // The most bytes that a number takes with its tab.
@@ -138,13 +160,15 @@ pub fn put_bytes(bytes: &[u8], out: &mut [u8], at: usize) -> usize
 }
 
 // A number in decimal digits.
-#[tactic(auto, using(crate::proofs::Written::text_is))]
+#[tactic(auto, using(crate::proofs::Fitting::fits_whole, crate::proofs::Fitting::fits_not, word::proofs::Fits::back))]
 pub fn put_number(z: i64, out: &mut [u8], at: usize) -> usize
     ensures count { result ≡ at + length (fitting out.old at (show_number z)) }
     ensures bytes { out.new ≡ sets out.old at (fitting out.old at (show_number z)) }
 {
-    let mut digits = Buffer::new();
-    put_bytes(digits.format(z).as_bytes(), out, at)
+    match out.len().checked_sub(at) {
+        Some(room) if number_length(z) <= room => write_number(z, out, at),
+        _ => at,
+    }
 }
 
 // A line: a serial, a word and numbers.
