@@ -59,6 +59,7 @@ fn write_fields(zs: &[i64], out: &mut [u8], at: usize) -> usize
     end
 }
 
+#[tactic(auto, using(crate::proofs::Lines::line_length, word::proofs::Fits::back))]
 fn write_line(serial: i64, word: &[u8], fields: &[i64], out: &mut [u8], at: usize) -> usize
     requires { at + length (line_bytes serial word.now fields.now) ≤ length out.old }
     ensures { Put out.old at (line_bytes serial word.now fields.now) out.new result }
@@ -178,9 +179,9 @@ pub fn put_line(serial: i64, word: &[u8], fields: &[i64], out: &mut [u8], at: us
     ensures bytes { out.new ≡ sets out.old at (fitting out.old at (line_bytes serial word.now fields.now)) }
 {
     match out.len().checked_sub(at) {
-        Some(room) if line_fits(serial, word, fields, room) => write_line(
-            serial, word, fields, out, at,
-        ),
+        Some(room) if line_fits(serial, word, fields, room) => {
+            write_line(serial, word, fields, out, at)
+        }
         _ => at,
     }
 }
