@@ -1,4 +1,4 @@
--- Only private contracts cite this: what a run of bytes leaves in a buffer with room for it, and digits by halves.
+-- Only private contracts cite this: what a run of bytes leaves in a buffer with room for it.
 use Rattle.std.specs.Prelude.{◌≡◌, List, ◌++◌, ℕ, ◌+◌, length, drop}
 use Rattle.std.proofs.lemmas.List.Edits.{sets}
 

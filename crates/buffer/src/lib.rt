@@ -47,6 +47,7 @@ fn write_number(z: i64, out: &mut [u8], at: usize) -> usize
 }
 
 // Each number behind a tab.
+#[tactic(auto, using(crate::proofs::Lines::fields_room, word::proofs::Fits::back))]
 fn write_fields(zs: &[i64], out: &mut [u8], at: usize) -> usize
     requires { at + length (field_bytes zs.now) ≤ length out.old }
     ensures { Put out.old at (field_bytes zs.now) out.new result }
@@ -129,6 +130,7 @@ fn surely_fits(word: &[u8], fields: &[i64], room: usize) -> bool
 }
 
 // How much room there is behind a line, if it fits.
+#[tactic(auto, using(crate::proofs::Lines::line_length, crate::proofs::Lines::fields_room, word::proofs::Fits::back))]
 fn room_left(serial: i64, word: &[u8], fields: &[i64], room: usize) -> Option<usize>
     ensures { MatchOption result (room < length (line_bytes serial word.now fields.now)) (λ left. left + length (line_bytes serial word.now fields.now) ≡ room) }
 {

@@ -8,23 +8,12 @@ use mir.Val.{SFits}
 use borrow.Author.Rules.{rules}
 use Rattle.word.proofs.Fits.{back}
 use Rattle.buffer.specs.Lines.{field_bytes}
-use Rattle.buffer.proofs.Lines.{fields_more, fields_room, line_length}
+use Rattle.buffer.proofs.Lines.{fields_more, line_length}
 use Rattle.buffer.proofs.room_left.Goals as goal
-
-pub returns-in_err-left : goal.returns-in_err-left
-returns-in_err-left c =
-    rw c.from_residual.ensures (omega (arith, line_length c.args.serial c.args.word.now c.args.fields.now, c.in_err-left.ensures, rw (back c.ranges.serial) at c.number_length.ensures.count))
 
 pub loop-z-init : goal.loop-z-init
 unfolding field_bytes
 loop-z-init c = rw (back c.ranges.serial) (omega (arith, c.in_ok-left.ensures, rw (back c.ranges.serial) at c.number_length.ensures.count))
-
-pub returns-in_err-left-2 : goal.returns-in_err-left-2
-returns-in_err-left-2 c =
-    let f : SFits w64 (get_or c.args.fields.now c.loop-z.z-index (pos 0)) = search rules in
-    let i = rw (back c.ranges.serial) at c.loop-z.invariant in
-    rw c.from_residual-in_err-left-2.ensures
-    (omega (arith, i, fields_room c.args.fields.now c.loop-z.z-index c.loop-z-test.true, line_length c.args.serial c.args.word.now c.args.fields.now, c.in_err-left-2.ensures, rw (back f) at c.number_length-in-loop-z.ensures.count))
 
 pub loop-z-preserved : goal.loop-z-preserved
 loop-z-preserved c =

@@ -15,19 +15,13 @@ pub loop-z-init : goal.loop-z-init
 unfolding field_bytes
 loop-z-init c = nothing _ _
 
-pub bounds-out-end : goal.bounds-out-end
-bounds-out-end c = omega (arith, fields_room c.args.zs.now c.loop-z.z-index c.loop-z-test.true)
-
-pub overflow_add-end : goal.overflow_add-end
-overflow_add-end c = omega (arith, fields_room c.args.zs.now c.loop-z.z-index c.loop-z-test.true)
-
-pub write_number-end-requires : goal.write_number-end-requires
-write_number-end-requires c =
-    let f : SFits w64 (get_or c.args.zs.now c.loop-z.z-index (pos 0)) = search rules in
-    rw (back f) (simp length-set (omega (arith, fields_room c.args.zs.now c.loop-z.z-index c.loop-z-test.true)))
-
 pub loop-z-preserved : goal.loop-z-preserved
 loop-z-preserved c =
     let f : SFits w64 (get_or c.args.zs.now c.loop-z.z-index (pos 0)) = search rules in
     rw (fields_more c.args.zs.now c.loop-z.z-index c.loop-z-test.true)
     (then c.loop-z.invariant (then (one _ _ 9) (rw (back f) at c.write_number-end.ensures)))
+
+pub write_number-end-requires : goal.write_number-end-requires
+write_number-end-requires c =
+    let f : SFits w64 (get_or c.args.zs.now c.loop-z.z-index (pos 0)) = search rules in
+    rw (back f) (simp length-set (omega (arith, fields_room c.args.zs.now c.loop-z.z-index c.loop-z-test.true)))
