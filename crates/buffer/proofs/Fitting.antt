@@ -6,6 +6,7 @@ use native.Mathlib.Nat.{zero-add}
 use lib.ListN.{length}
 use lib.Seq.{sets}
 use borrow.Author.Tests.{le-leb, lt-leb}
+use Rattle.word.proofs.Fits.{back}
 use Rattle.buffer.specs.Fitting.{fitting}
 use Rattle.buffer.specs.Code.{Put, Front}
 use Rattle.buffer.proofs.Put.{to_front}
@@ -22,6 +23,9 @@ module _ (b : List ℕ) (at : ℕ) (xs : List ℕ) where
   pub fits_not : length b < at + length xs → fitting b at xs ≡ []
   unfolding fitting
   fits_not h = rw (lt-leb _ _ h)
+
+-- what the check is given of them
+pub ruleset fits = (fits_whole, fits_not, back)
 
 -- where there is room it is a plain write
 pub fitted_put : {b : List ℕ} {at : ℕ} {xs b' : List ℕ} {end : ℕ} → at + length xs ≤ length b → Fitted b at xs b' end → Put b at xs b' end

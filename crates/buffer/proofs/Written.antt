@@ -17,6 +17,7 @@ use Rattle.std.specs.Fmt.{decimal}
 use Rattle.std.proofs.lemmas.Fmt.{AppendsLastDigit, decimal_from_appends, length-decimal-le_succ}
 use Rattle.algebra.specs.Order.{◌⩽◌}
 use Rattle.algebra.proofs.Test.{either}
+use Rattle.word.proofs.Fits.{back}
 use Rattle.word.specs.Compare.{between}
 use Rattle.word.proofs.Compare.{between_true}
 use Rattle.buffer.specs.Decimal.{digits, show_natural, show_number}
@@ -114,6 +115,9 @@ pub show_plus : (z : ℤ) → lt_z z (pos 0) ≡ false → show_number z ≡ sho
 unfolding show_number
 show_plus (pos n) e = refl
 show_plus (negsuc n) e = absurd (subst T e tt)
+
+-- what the check is given of them
+pub ruleset by_sign = (show_minus, show_plus, back)
 
 -- 19 digits and a sign at most
 pub short_size : (z : ℤ) → SFits w64 z → length (show_natural (nat_abs z)) ≤ 19

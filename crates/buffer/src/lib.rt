@@ -33,7 +33,7 @@ fn write_natural(v: u64, out: &mut [u8], at: usize) -> usize
     end
 }
 
-#[tactic(auto, using(crate::proofs::Written::show_minus, crate::proofs::Written::show_plus, word::proofs::Fits::back))]
+#[tactic(auto, using(crate::proofs::Written::by_sign))]
 fn write_number(z: i64, out: &mut [u8], at: usize) -> usize
     requires { at + length (show_number z) ≤ length out.old }
     ensures { Put out.old at (show_number z) out.new result }
@@ -97,7 +97,7 @@ fn natural_length(v: u64) -> usize
     v.max(1).ilog10() as usize + 1
 }
 
-#[tactic(auto, using(crate::proofs::Written::show_minus, crate::proofs::Written::show_plus, word::proofs::Fits::back))]
+#[tactic(auto, using(crate::proofs::Written::by_sign))]
 fn number_length(z: i64) -> usize
     ensures count { result ≡ length (show_number z) }
     ensures short { result ≤ 21 }
@@ -151,7 +151,7 @@ fn line_fits(serial: i64, word: &[u8], fields: &[i64], room: usize) -> bool
 
 // ---- all or nothing
 
-#[tactic(auto, using(crate::proofs::Fitting::fits_whole, crate::proofs::Fitting::fits_not))]
+#[tactic(auto, using(crate::proofs::Fitting::fits))]
 pub fn put_bytes(bytes: &[u8], out: &mut [u8], at: usize) -> usize
     ensures count { result ≡ at + length (fitting out.old at bytes.now) }
     ensures bytes { out.new ≡ sets out.old at (fitting out.old at bytes.now) }
@@ -163,7 +163,7 @@ pub fn put_bytes(bytes: &[u8], out: &mut [u8], at: usize) -> usize
 }
 
 // A number in decimal digits.
-#[tactic(auto, using(crate::proofs::Fitting::fits_whole, crate::proofs::Fitting::fits_not, word::proofs::Fits::back))]
+#[tactic(auto, using(crate::proofs::Fitting::fits))]
 pub fn put_number(z: i64, out: &mut [u8], at: usize) -> usize
     ensures count { result ≡ at + length (fitting out.old at (show_number z)) }
     ensures bytes { out.new ≡ sets out.old at (fitting out.old at (show_number z)) }
@@ -175,7 +175,7 @@ pub fn put_number(z: i64, out: &mut [u8], at: usize) -> usize
 }
 
 // A line: a serial, a word and numbers.
-#[tactic(auto, using(crate::proofs::Fitting::fits_whole, crate::proofs::Fitting::fits_not))]
+#[tactic(auto, using(crate::proofs::Fitting::fits))]
 pub fn put_line(serial: i64, word: &[u8], fields: &[i64], out: &mut [u8], at: usize) -> usize
     ensures count { result ≡ at + length (fitting out.old at (line_bytes serial word.now fields.now)) }
     ensures bytes { out.new ≡ sets out.old at (fitting out.old at (line_bytes serial word.now fields.now)) }
@@ -189,7 +189,7 @@ pub fn put_line(serial: i64, word: &[u8], fields: &[i64], out: &mut [u8], at: us
 }
 
 // Numbers of eight bytes each, two's complement, the low byte first.
-#[tactic(auto, using(crate::proofs::Fitting::fits_whole, crate::proofs::Fitting::fits_not, crate::proofs::Words::length_encode))]
+#[tactic(auto, using(crate::proofs::Fitting::fits, crate::proofs::Words::length_encode))]
 pub fn put_words(numbers: &[i64], out: &mut [u8], at: usize) -> usize
     ensures count { result ≡ at + length (fitting out.old at (encode numbers.now)) }
     ensures bytes { out.new ≡ sets out.old at (fitting out.old at (encode numbers.now)) }
