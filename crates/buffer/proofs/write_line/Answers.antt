@@ -27,4 +27,4 @@ pub returns : goal.returns
 unfolding line_bytes
 returns c =
     let a = rw (back c.ranges.serial) at c.write_number-a.ensures in
-    then (then (then a (then (one _ _ 9) c.write_bytes-b.ensures)) c.write_fields-c.ensures) (one _ _ 10)
+    then (then (then a (then (one _ _ _) c.write_bytes-b.ensures)) c.write_fields-c.ensures) (one _ _ _)
