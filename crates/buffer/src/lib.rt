@@ -86,7 +86,7 @@ fn write_words(numbers: &[i64], out: &mut [u8], at: usize) -> usize
 
 // ---- how much room there must be
 
-// -2^63 is the longest number.
+// The longest number, -2^63, has 20 bytes.
 const LONGEST: usize = 20;
 
 #[tactic(auto, using(crate::proofs::Written::length_is))]
