@@ -1,11 +1,12 @@
 -- What fits whole and what does not, told by the place behind it and the bytes of the buffer.
-use mathlib.Core.Path.{◌≡◌, refl, sym}
+use mathlib.Core.Path.{◌≡◌}
 use mathlib.Core.List.{List, []}
 use Prim.Native.Nat.{ℕ, ◌+◌, ◌≤◌, ◌<◌}
-use native.Mathlib.Nat.{add-zero, zero-add}
+use native.Mathlib.Nat.{zero-add}
 use lib.ListN.{length}
 use lib.Seq.{sets}
 use borrow.Author.Tests.{le-leb, lt-leb}
+use Rattle.word.proofs.Fits.{back}
 use Rattle.buffer.specs.Fitting.{fitting}
 use Rattle.buffer.specs.Code.{Put, Front}
 use Rattle.buffer.proofs.Put.{to_front}
@@ -23,11 +24,8 @@ module _ (b : List ℕ) (at : ℕ) (xs : List ℕ) where
   unfolding fitting
   fits_not h = rw (lt-leb _ _ h)
 
-  pub left_alone : length b < at + length xs → Fitted b at xs b at
-  left_alone h = rw (fits_not h) (sym (add-zero at), refl)
-
-pub written : {b : List ℕ} {at : ℕ} {xs b' : List ℕ} {end : ℕ} → at + length xs ≤ length b → Put b at xs b' end → Fitted b at xs b' end
-written {b} {at} {xs} h p = rw (fits_whole b at xs h) (p.after, p.bytes)
+-- what the check is given of them
+pub ruleset fits = (fits_whole, fits_not, back)
 
 -- where there is room it is a plain write
 pub fitted_put : {b : List ℕ} {at : ℕ} {xs b' : List ℕ} {end : ℕ} → at + length xs ≤ length b → Fitted b at xs b' end → Put b at xs b' end

@@ -2,11 +2,11 @@
 use mathlib.Core.Path.{◌≡◌, refl, sym, ap, ◌∙◌}
 use mathlib.Core.List.{List, [], ◌∷◌, ◌++◌, append_assoc}
 use Prim.Native.Nat.{ℕ, suc, ◌+◌, ◌-◌, ◌≤◌}
-use native.Mathlib.Nat.{le_refl, add-suc, suc-add, add-zero, zero-add, add_assoc}
+use native.Mathlib.Nat.{add-suc, suc-add, add-zero, zero-add, add_assoc}
 use native.Mathlib.Omega.{arith}
-use lib.ListN.{length, set, take, drop, length-append, length-drop}
-use lib.Seq.{sets, length-sets, sets-eq, take_all}
-use borrow.Rule.Slice.PartMut.{mid_of, put_mid, Post-is}
+use lib.ListN.{length, set, take, drop, length-append, take-append-drop}
+use lib.Seq.{sets, length-sets, sets-eq}
+use borrow.Rule.Slice.PartMut.{put_mid, Post-is}
 use Rattle.buffer.specs.Code.{Put, Front}
 
 sets_append : (xs ys b : List ℕ) (k : ℕ) → sets (sets b k xs) (k + length xs) ys ≡ sets b k (xs ++ ys)
@@ -39,13 +39,21 @@ go_on {b} {at} {xs} ys p = rw (p.bytes, p.after) (sets_append xs ys b at)
 pub kept : {b : List ℕ} {at : ℕ} {xs b' : List ℕ} {end : ℕ} → Put b at xs b' end → length b' ≡ length b
 kept {b} {at} {xs} p = ap length p.bytes ∙ length-sets b at xs
 
--- how long a run is that is made of two
-pub both : {whole : List ℕ} (xs ys : List ℕ) → whole ≡ xs ++ ys → length whole ≡ length xs + length ys
-both xs ys e = ap length e ∙ length-append xs ys
-
 -- a run from the front
 pub to_front : {b xs b' : List ℕ} {end : ℕ} → Put b 0 xs b' end → length xs ≤ length b → Front xs b b' end
 to_front {b} {xs} p h = record { bytes = p.bytes ∙ (sets-eq xs b 0 (rw zero-add h) ∙ rw zero-add); count = omega (arith, p.after) }
+
+-- a run whose front and back are told apart
+pub placed : {b : List ℕ} {at : ℕ} {xs b' : List ℕ} {end : ℕ} (start : ℕ) → end ≤ length b → start + length xs ≡ end → at + length xs ≡ end →
+    drop start b' ≡ xs ++ drop end b → take start b' ≡ take start b → Put b at xs b' end
+placed {b} {at} {xs} {b'} {end} start room e h back front =
+    let same : start ≡ at = omega arith in
+    let before = rw same at front in
+    let behind = rw (same, ← h) at back in
+    record {
+      bytes = sym (take-append-drop at b') ∙ (rw (before, behind) (sym (append_assoc (take at b) xs (drop (at + length xs) b)) ∙ sym (sets-eq xs b at (omega arith))));
+      after = sym h;
+    }
 
 -- bytes copied into the part of a buffer that they fill
 pub copied : (b : List ℕ) (at : ℕ) (xs : List ℕ) {part : List ℕ} → at + length xs ≤ length b → part ≡ xs →
@@ -55,8 +63,3 @@ copied b at xs {part} h e = record {
       (sym (append_assoc (take at b) xs (drop (at + length xs) b)) ∙ sym (sets-eq xs b at h));
   after = refl;
 }
-
--- ---- a run from the front of a part that goes to the buffer's end is a run in the whole
-module _ (b : List ℕ) (at : ℕ) (h : at ≤ length b) where
-  pub rest : mid_of at (length b - at) b ≡ drop at b
-  rest = take_all (length b - at) (drop at b) (simp length-drop (le_refl (length b - at)))

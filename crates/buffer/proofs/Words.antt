@@ -1,17 +1,17 @@
 -- Numbers of eight bytes: how many bytes they are, one number after the other, and that they are read back.
-use mathlib.Core.Path.{◌≡◌, refl, ap, ◌∙◌}
-use mathlib.Core.List.{List, [], ◌∷◌, ◌++◌}
-use Prim.Native.Nat.{ℕ, zero, suc, ◌+◌, ◌*◌, ◌/◌, ◌^◌, ◌≤◌, ◌<◌}
+use mathlib.Core.Path.{◌≡◌, refl, sym, ap, ◌∙◌}
+use mathlib.Core.List.{List, [], ◌∷◌, ◌++◌, append_assoc, append-nil}
+use Prim.Native.Nat.{ℕ, zero, suc, ◌+◌, ◌*◌, ◌/◌, ◌%◌, ◌^◌, ◌<◌}
 use native.Mathlib.Omega.{arith}
-use native.Mathlib.Numerals.{add-one}
-use native.Mathlib.Nat.{pow-suc, pow-zero, div-add-mod, div-lt_iff_lt-mul}
+use native.Mathlib.Nat.{pow-suc, pow-zero, div-add-mod, div-lt_iff_lt-mul, div-div-eq-div-mul}
 use lib.Dec.{lit<}
-use lib.ListN.{length, get_or, drop, length-append, drop_of_length-le}
-use lib.Seq.{drop-cons}
+use lib.ListN.{length, get_or, take, length-append}
 use lib.IntN.{ℤ, pos, negsuc}
 use mir.Syntax.{w64}
 use mir.Val.{SFits, to_z, of_z}
 use mir.ValLaws.{of_z_fits}
+use Rattle.std.specs.Int.{bytes_low_first, to_le_bytes}
+use Rattle.std.proofs.lemmas.List.{take_more}
 use Rattle.word.proofs.Fits.{back}
 use Rattle.buffer.specs.Words.{bytes, signed_bytes, encode}
 
@@ -40,13 +40,31 @@ unfolding encode
 length_encode [] = refl
 length_encode (z ∷ zs) = simp (length-append, length_bytes, length_encode zs) (omega arith)
 
-pub encode_more : (zs : List ℤ) (i : ℕ) → i < length zs → encode (drop i zs) ≡ signed_bytes (get_or zs i (pos 0)) ++ encode (drop (i + 1) zs)
+joined : (xs ys : List ℤ) → encode (xs ++ ys) ≡ encode xs ++ encode ys
 unfolding encode
-encode_more zs i h = rw (add-one, drop-cons zs i (pos 0) h)
+joined [] ys = refl
+joined (z ∷ zs) ys = ap (λ (l : List ℕ). signed_bytes z ++ l) (joined zs ys) ∙ sym (append_assoc (signed_bytes z) (encode zs) (encode ys))
 
-pub encode_none : (zs : List ℤ) (i : ℕ) → length zs ≤ i → encode (drop i zs) ≡ []
+single : (z : ℤ) → encode (z ∷ []) ≡ signed_bytes z
 unfolding encode
-encode_none zs i h = rw (drop_of_length-le zs h)
+single z = append-nil (signed_bytes z)
+
+pub encode_more : (zs : List ℤ) (i : ℕ) → i < length zs → encode (take (i + 1) zs) ≡ encode (take i zs) ++ signed_bytes (get_or zs i (pos 0))
+encode_more zs i h = rw (take_more zs i (pos 0) h, joined (take i zs)) (ap (λ (l : List ℕ). encode (take i zs) ++ l) (single (get_or zs i (pos 0))))
+
+-- ---- std's eight bytes are these
+next : (i u v : ℕ) → v ≡ u / 256 ^ i → v / 256 ≡ u / 256 ^ suc i
+next i u v e = rw (e, div-div-eq-div-mul, pow-suc)
+
+bytes_from : (k i u v : ℕ) → v ≡ u / 256 ^ i → bytes k v ≡ bytes_low_first i k u
+unfolding bytes
+bytes_from zero i u v e = refl
+bytes_from (suc k) zero u v e = let d : v % 256 ≡ u % 256 = omega arith in cc (d, bytes_from k 1 u (v / 256) (next 0 u v e))
+bytes_from (suc k) (suc i) u v e = cc (ap (λ (n : ℕ). n % 256) e, bytes_from k (suc (suc i)) u (v / 256) (next (suc i) u v e))
+
+-- as a call of std's tells it
+pub word_is : (z : ℤ) (bs : List ℕ) → SFits w64 z → bs ≡ to_le_bytes w64 (of_z w64 (to_z w64 (of_z w64 z))) → bs ≡ signed_bytes z
+word_is z bs f e = e ∙ rw (back f) (sym (bytes_from 8 0 (of_z w64 z) (of_z w64 z) (omega arith)))
 
 -- "two's complement, low byte first": 258 and −2
 low_byte_first : encode (pos 258 ∷ negsuc 1 ∷ [])

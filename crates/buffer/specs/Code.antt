@@ -1,5 +1,5 @@
--- Only private contracts cite this: what a run of bytes leaves in a buffer with room for it, and digits by halves.
-use Rattle.std.specs.Prelude.{◌≡◌, List, [], ◌∷◌, ◌++◌, ℕ, zero, suc, ◌+◌, ◌/◌, ◌%◌, ◌^◌, length, drop}
+-- Only private contracts cite this: what a run of bytes leaves in a buffer with room for it.
+use Rattle.std.specs.Prelude.{◌≡◌, List, ◌++◌, ℕ, ◌+◌, length, drop}
 use Rattle.std.proofs.lemmas.List.Edits.{sets}
 
 -- xs written into b from `at` on makes it b', and end is the place behind them
@@ -11,8 +11,3 @@ pub record Put (b : List ℕ) (at : ℕ) (xs b' : List ℕ) (end : ℕ) : Type 0
 pub record Front (xs b b' : List ℕ) (end : ℕ) : Type 0 where
   pub bytes : b' ≡ xs ++ drop (length xs) b
   pub count : end ≡ length xs
-
--- v, which has at most 2^k digits, in so many, zeros in front: one half behind the other
-unfoldable pub halves : ℕ → ℕ → List ℕ
-halves zero v = (48 + v) ∷ []
-halves (suc k) v = halves k (v / 10 ^ (2 ^ k)) ++ halves k (v % 10 ^ (2 ^ k))
