@@ -57,12 +57,12 @@ fn answer_block(rt: &impl Print, place: Place, block: &[u8], out: &mut [u8]) -> 
     ensures unwritten { OnErr result (length out.new ≡ length out.old) }
 {
     let mut here = place;
-    let mut at: usize = 0;
-    while at < block.len() {
-        let fed = stream::feed(here, &block[at..], out);
+    let mut rest = block;
+    while !rest.is_empty() {
+        let fed = stream::feed(here, rest, out);
         rt.write_all(&out[..fed.written])?;
         here = fed.place;
-        at += fed.read;
+        rest = &rest[fed.read..];
     }
     Ok(here)
 }

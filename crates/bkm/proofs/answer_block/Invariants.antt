@@ -1,15 +1,12 @@
--- Each feed goes on from what the one before left: the bytes that were read lead to the place.
-use Rattle.std.proofs.Common.{length, take, ◌-◌, ◌≡◌, ◌≤◌}
+-- Each feed goes on from what the one before left: the rest leads from the place to where the whole block leads.
+use Rattle.std.proofs.Common.{length, ◌≡◌}
 use Rattle.stream.specs.Machine.{cut, place_after}
 use Rattle.stream.specs.Sheet.{machine, place_of}
 use Rattle.bkm.proofs.answer_block.Given as goal
 
-abbrev pub invariant-loop-at : goal.invariant-loop-at
-invariant-loop-at g l =
-    record {
-      read : l.at ≤ length l.block;
-      led : cut (place_of l.here) ≡ cut (place_after machine (place_of l.fn.place) (take l.at l.block));
-    }
+abbrev pub invariant-loop-rest : goal.invariant-loop-rest
+invariant-loop-rest g l =
+    cut (place_after machine (place_of l.here) l.rest) ≡ cut (place_after machine (place_of l.fn.place) l.block)
 
-abbrev pub decreases-loop-at : goal.decreases-loop-at
-decreases-loop-at g l = length l.block - l.at
+abbrev pub decreases-loop-rest : goal.decreases-loop-rest
+decreases-loop-rest g l = length l.rest
