@@ -44,9 +44,6 @@ size_abs {x = negsuc n} {b} h = lin (pos n ∷ b ∷ []) (h.lo & none) (search r
 pub abs_size : {x b : ℤ} → abs x ⩽ b → Size x b
 abs_size {x} h = record { lo = ⩽_trans (neg_mono h) (neg_abs_le x); hi = ⩽_trans (le_abs x) h }
 
-pub abs_bound : {x b : ℤ} → Size x b → Size (abs x) b
-abs_bound {x} {b} h = record { lo = lin (abs x ∷ b ∷ []) (abs_nonneg x & size_abs h & none) (search reify depth 20) tt; hi = size_abs h }
-
 -- strictly between −b and b
 pub abs_below : {x b : ℤ} → neg_ℤ b ⋖ x → x ⋖ b → abs x ⋖ b
 abs_below {x} {b} lo hi = lin< (abs x ∷ b ∷ []) (size_abs {x = x} {b = b -ℤ pos 1} inside & none) (search reify depth 20) tt

@@ -49,9 +49,6 @@ sfits_mag x h = record { sfits = h }
 pub sfits_pos : {n : ℕ} → n < 2 ^ 63 → SFits w64 (pos n)
 sfits_pos h = record { sfits = h }
 
-pub sfits_negsuc : {n : ℕ} → n < 2 ^ 63 → SFits w64 (negsuc n)
-sfits_negsuc h = record { sfits = h }
-
 pub sfits_neg : (n : ℕ) → n ≤ 2 ^ 63 → SFits w64 (neg_ℤ (pos n))
 sfits_neg zero h = record { sfits = lit< tt }
 sfits_neg (suc n) h = record { sfits = h }
