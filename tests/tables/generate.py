@@ -4,7 +4,6 @@
 generate.py writes; generate.py --check compares with what stands and fails on any difference.
 """
 
-import functools
 import pathlib
 import sys
 
@@ -73,9 +72,6 @@ constants48 = record {{ quarter_pi = {quarter_pi}; ln_2 = {ln_2}; half_ln_2 = {h
 
 
 # ---- the source
-PART = 10  # matrices of the step table to a constant
-
-
 def number_fields(entry):
     fields = "re: %d, im: %d" % entry
     if len(fields) <= 18:
@@ -91,33 +87,27 @@ def step_name(n, place):
     return f"STEP_{n}_{('MINUS', 'ZERO', 'PLUS')[place]}"
 
 
-def parts():
-    """(number, first n) of each constant."""
-    return list(enumerate(range(1, WIDTH - 7, PART), 1))
-
-
 def array_source():
-    """The array over n of three rows of three entries, and a reader of each constant."""
-    out = [f"""// The array over n, each element three rows by dx of three entries by dy, at the width {WIDTH}: {PART} elements to a constant. {MADE}
+    """The array over n of three rows of three entries, and its reader."""
+    steps = range(1, WIDTH - 7)
+    matrices = "".join("    [%s],\n" % ", ".join(f"t::{step_name(n, place)}" for place in range(3)) for n in steps)
+    return f"""// The array over n, each element three rows by dx of three entries by dy, at the width {WIDTH}. {MADE}
 ghost use Rattle.std.specs.Prelude.{{◌≡◌, ◌<◌, ◌+◌}};
 ghost use Rattle.table_numbers.specs.Rows.{{step_row, part}};
 
 use step_table::rows{WIDTH} as t;
 use table_numbers::Entry;
-"""]
-    for number, first in parts():
-        matrices = "".join("    [%s],\n" % ", ".join(f"t::{step_name(n, place)}" for place in range(3)) for n in range(first, first + PART))
-        out.append(f"\nconst PART_{number}: [[[Entry; 3]; 3]; {PART}] = [\n{matrices}];\n")
-    for number, first in parts():
-        out.append(f"""
-pub fn part_{number}(i: usize, place: usize) -> [Entry; 3]
-    requires {{ (i < {PART}) × (place < 3) }}
-    ensures {{ result ≡ step_row (i + {first}) (part place) }}
+
+static STEPS: [[[Entry; 3]; 3]; {len(steps)}] = [
+{matrices}];
+
+pub fn row(i: usize, place: usize) -> [Entry; 3]
+    requires {{ (i < {len(steps)}) × (place < 3) }}
+    ensures {{ result ≡ step_row (i + 1) (part place) }}
 {{
-    PART_{number}[i][place]
+    STEPS[i][place]
 }}
-""")
-    return "".join(out)
+"""
 
 
 def steps_source():
@@ -213,9 +203,9 @@ use Rattle.table_numbers.specs.Table.{{step_table}}
     return arms_proof(function, uses, "step_row step_table step_logs", "row_at", "other_row", range(3, 3 * (WIDTH - 7)), "index", "step_row, row_at")
 
 
-def part_proof(number, first):
-    module = f"Rattle.step_array.proofs.array{WIDTH}.part_{number}"
-    return f"""-- `step_array::array{WIDTH}::part_{number}` meets its contract: the array is the specification's. {MADE}
+def array_proof():
+    module = f"Rattle.step_array.proofs.array{WIDTH}.row"
+    return f"""-- `step_array::array{WIDTH}::row` meets its contract: the array is the specification's. {MADE}
 use Rattle.table_numbers.specs.Numbers{WIDTH}.{{step_logs}}
 use Rattle.table_numbers.specs.Table.{{step_table}}
 use Rattle.table_numbers.specs.Rows.{{step_row}}
@@ -224,7 +214,7 @@ use {module}.Goals as goal
 
 pub returns : goal.returns
 unfolding step_row matrices step_table step_logs
-returns c = let s = c.before in matrices_at {first} {PART} s.args.i s.args.place s.requires.0 s.requires.1
+returns c = matrices_at 1 {WIDTH - 8} c.args.i c.args.place c.requires.0 c.requires.1
 """
 
 
@@ -242,8 +232,7 @@ FILES = {
     f"step_table/proofs/flat{WIDTH}/numbers_at/Answers.antt": steps_proof,
     f"reciprocal_table/proofs/reciprocal_logs{WIDTH}/reciprocal_log_at/Answers.antt": reciprocal_logs_proof,
     f"step_array/src/array{WIDTH}.rt": array_source,
-} | {
-    f"step_array/proofs/array{WIDTH}/part_{number}/Answers.antt": functools.partial(part_proof, number, first) for number, first in parts()
+    f"step_array/proofs/array{WIDTH}/row/Answers.antt": array_proof,
 }
 
 

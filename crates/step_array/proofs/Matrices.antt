@@ -31,9 +31,9 @@ matrices_at n zero i a h g = absurd (not-suc-le-zero h)
 matrices_at n (suc m) zero a h g = matrix_at n a g ∙ ap (λ k. step_row k (part a)) (omega arith)
 matrices_at n (suc m) (suc i) a h g = matrices_at (suc n) m i a (omega arith) g ∙ ap (λ k. step_row k (part a)) (omega arith)
 
--- the row that a part from f on has for n
-pub part_kept : (n f : ℕ) {dx : ℤ} {row : List Entry} → f ≤ n → Trit dx → row ≡ step_row (n - f + f) (part (place dx)) →
+-- the row that the array from 1 on has for n
+pub array_kept : (n : ℕ) {dx : ℤ} {row : List Entry} → 1 ≤ n → Trit dx → row ≡ step_row (n - 1 + 1) (part (place dx)) →
     (row ≡ step_row n dx) × RowPromise n dx row
-part_kept n f {dx} h t e =
-    let q : n - f + f ≡ n = omega arith in
+array_kept n {dx} h t e =
+    let q : n - 1 + 1 ≡ n = omega arith in
     row_kept n dx (e ∙ ap₂ step_row q (part_place t))

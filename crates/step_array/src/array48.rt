@@ -1,11 +1,11 @@
-// The array over n, each element three rows by dx of three entries by dy, at the width 48: 10 elements to a constant. Made by tests/tables/generate.py.
+// The array over n, each element three rows by dx of three entries by dy, at the width 48. Made by tests/tables/generate.py.
 ghost use Rattle.std.specs.Prelude.{◌≡◌, ◌<◌, ◌+◌};
 ghost use Rattle.table_numbers.specs.Rows.{step_row, part};
 
 use step_table::rows48 as t;
 use table_numbers::Entry;
 
-const PART_1: [[[Entry; 3]; 3]; 10] = [
+static STEPS: [[[Entry; 3]; 3]; 40] = [
     [t::STEP_1_MINUS, t::STEP_1_ZERO, t::STEP_1_PLUS],
     [t::STEP_2_MINUS, t::STEP_2_ZERO, t::STEP_2_PLUS],
     [t::STEP_3_MINUS, t::STEP_3_ZERO, t::STEP_3_PLUS],
@@ -16,9 +16,6 @@ const PART_1: [[[Entry; 3]; 3]; 10] = [
     [t::STEP_8_MINUS, t::STEP_8_ZERO, t::STEP_8_PLUS],
     [t::STEP_9_MINUS, t::STEP_9_ZERO, t::STEP_9_PLUS],
     [t::STEP_10_MINUS, t::STEP_10_ZERO, t::STEP_10_PLUS],
-];
-
-const PART_2: [[[Entry; 3]; 3]; 10] = [
     [t::STEP_11_MINUS, t::STEP_11_ZERO, t::STEP_11_PLUS],
     [t::STEP_12_MINUS, t::STEP_12_ZERO, t::STEP_12_PLUS],
     [t::STEP_13_MINUS, t::STEP_13_ZERO, t::STEP_13_PLUS],
@@ -29,9 +26,6 @@ const PART_2: [[[Entry; 3]; 3]; 10] = [
     [t::STEP_18_MINUS, t::STEP_18_ZERO, t::STEP_18_PLUS],
     [t::STEP_19_MINUS, t::STEP_19_ZERO, t::STEP_19_PLUS],
     [t::STEP_20_MINUS, t::STEP_20_ZERO, t::STEP_20_PLUS],
-];
-
-const PART_3: [[[Entry; 3]; 3]; 10] = [
     [t::STEP_21_MINUS, t::STEP_21_ZERO, t::STEP_21_PLUS],
     [t::STEP_22_MINUS, t::STEP_22_ZERO, t::STEP_22_PLUS],
     [t::STEP_23_MINUS, t::STEP_23_ZERO, t::STEP_23_PLUS],
@@ -42,9 +36,6 @@ const PART_3: [[[Entry; 3]; 3]; 10] = [
     [t::STEP_28_MINUS, t::STEP_28_ZERO, t::STEP_28_PLUS],
     [t::STEP_29_MINUS, t::STEP_29_ZERO, t::STEP_29_PLUS],
     [t::STEP_30_MINUS, t::STEP_30_ZERO, t::STEP_30_PLUS],
-];
-
-const PART_4: [[[Entry; 3]; 3]; 10] = [
     [t::STEP_31_MINUS, t::STEP_31_ZERO, t::STEP_31_PLUS],
     [t::STEP_32_MINUS, t::STEP_32_ZERO, t::STEP_32_PLUS],
     [t::STEP_33_MINUS, t::STEP_33_ZERO, t::STEP_33_PLUS],
@@ -57,30 +48,9 @@ const PART_4: [[[Entry; 3]; 3]; 10] = [
     [t::STEP_40_MINUS, t::STEP_40_ZERO, t::STEP_40_PLUS],
 ];
 
-pub fn part_1(i: usize, place: usize) -> [Entry; 3]
-    requires { (i < 10) × (place < 3) }
+pub fn row(i: usize, place: usize) -> [Entry; 3]
+    requires { (i < 40) × (place < 3) }
     ensures { result ≡ step_row (i + 1) (part place) }
 {
-    PART_1[i][place]
-}
-
-pub fn part_2(i: usize, place: usize) -> [Entry; 3]
-    requires { (i < 10) × (place < 3) }
-    ensures { result ≡ step_row (i + 11) (part place) }
-{
-    PART_2[i][place]
-}
-
-pub fn part_3(i: usize, place: usize) -> [Entry; 3]
-    requires { (i < 10) × (place < 3) }
-    ensures { result ≡ step_row (i + 21) (part place) }
-{
-    PART_3[i][place]
-}
-
-pub fn part_4(i: usize, place: usize) -> [Entry; 3]
-    requires { (i < 10) × (place < 3) }
-    ensures { result ≡ step_row (i + 31) (part place) }
-{
-    PART_4[i][place]
+    STEPS[i][place]
 }

@@ -14,24 +14,11 @@ pub fn array_row(n: usize, dx: i64) -> [Entry; 3]
     ensures value { result ≡ step_row n dx }
     ensures promise { RowPromise n dx result }
 {
-    if n < 1 {
+    if n < 1 || 40 < n {
         return rows48::NO_STEP;
     }
     if !point::is_between(-1, 1, dx) {
         return rows48::NO_STEP;
     }
-    let place = (dx + 1) as usize;
-    if n < 11 {
-        return array48::part_1(n - 1, place);
-    }
-    if n < 21 {
-        return array48::part_2(n - 11, place);
-    }
-    if n < 31 {
-        return array48::part_3(n - 21, place);
-    }
-    if n < 41 {
-        return array48::part_4(n - 31, place);
-    }
-    rows48::NO_STEP
+    array48::row(n - 1, (dx + 1) as usize)
 }

@@ -1,10 +1,10 @@
--- `step_array::array48::part_3` meets its contract: the array is the specification's. Made by tests/tables/generate.py.
+-- `step_array::array48::row` meets its contract: the array is the specification's. Made by tests/tables/generate.py.
 use Rattle.table_numbers.specs.Numbers48.{step_logs}
 use Rattle.table_numbers.specs.Table.{step_table}
 use Rattle.table_numbers.specs.Rows.{step_row}
 use Rattle.step_array.proofs.Matrices.{matrices, matrices_at}
-use Rattle.step_array.proofs.array48.part_3.Goals as goal
+use Rattle.step_array.proofs.array48.row.Goals as goal
 
 pub returns : goal.returns
 unfolding step_row matrices step_table step_logs
-returns c = let s = c.before in matrices_at 21 10 s.args.i s.args.place s.requires.0 s.requires.1
+returns c = matrices_at 1 40 c.args.i c.args.place c.requires.0 c.requires.1
