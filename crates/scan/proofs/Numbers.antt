@@ -1,11 +1,13 @@
 -- The reader's way through fields that are numbers: those that are read, behind them those to read.
-use Rattle.std.proofs.Common.{◌≡◌, ℕ, suc, ◌+◌, ◌<◌, ◌≤◌, ltb, ltb-true, ltb-false, Bool, false, cond, List, [], ◌∷◌, ◌++◌, length, take, drop, set, ℤ, pos, sym, refl, ap, ◌∙◌, append-nil, add-one, arith, drop_of_length-le, take_all, drop-cons, take-suc-set, drop-set-lt, Option, Some, None}
+use Rattle.std.proofs.Common.{SFits, w64, get_or, lit<, zero, ◌≡◌, ℕ, suc, ◌+◌, ◌<◌, ◌≤◌, ltb, ltb-true, ltb-false, Bool, false, cond, List, [], ◌∷◌, ◌++◌, length, take, drop, set, ℤ, pos, sym, refl, ap, ◌∙◌, append-nil, add-one, arith, drop_of_length-le, take_all, drop-cons, take-suc-set, drop-set-lt, Option, Some, None}
 use lib.Seq.{slice, split_at, append_snoc}
 use Rattle.algebra.proofs.Test.{either}
 use Rattle.scan.specs.Decimal.{read_number}
 use Rattle.scan.specs.Fields.{fields_at}
 use Rattle.scan.specs.Numbers.{Numbers, are, none, in_front, numbers, are_there, put_first, stored}
+use Rattle.word.proofs.Fits.{sfits_pos}
 use Rattle.scan.proofs.Find.{Ended}
+use Rattle.scan.proofs.Read.{number_is}
 use Rattle.scan.proofs.Fields.{no_field, first_field, some_field}
 
 -- ---- numbers that are there stand where they are stored
@@ -27,6 +29,21 @@ numbers_stored (x ∷ xs) (f ∷ fs) = one_more (read_number f) (x ∷ xs) (stor
 pub numbers_read : (into : List ℤ) (fs : List (List ℕ)) {r : Bool} {new : List ℤ} →
     (r ≡ are_there (numbers (length into) fs)) × (new ≡ stored into fs) → numbers (length into) fs ≡ cond r (are new) none
 numbers_read into fs p = rw (p.0, p.1) (numbers_stored into fs)
+
+-- and each of them fits
+pub numbers_fit : (n : ℕ) (fs : List (List ℕ)) (zs : List ℤ) → numbers n fs ≡ are zs → (i : ℕ) → SFits w64 (get_or zs i (pos 0))
+unfolding numbers
+numbers_fit zero [] zs e i = let k : zs ≡ [] = cc in rw k (sfits_pos (lit< tt))
+numbers_fit zero (f ∷ fs) zs e i = cc
+numbers_fit (suc n) [] zs e i = cc
+numbers_fit (suc n) (f ∷ fs) zs e i = go (read_number f) (numbers n fs) refl (λ ys k. numbers_fit n fs ys k) e i
+  where
+    go : (r : Option ℤ) (ns : Numbers) → read_number f ≡ r → ((ys : List ℤ) → ns ≡ are ys → (i : ℕ) → SFits w64 (get_or ys i (pos 0))) →
+        in_front r ns ≡ are zs → (i : ℕ) → SFits w64 (get_or zs i (pos 0))
+    go None ns r h e i = cc
+    go (Some z) none r h e i = cc
+    go (Some z) (are ys) r h e zero = let k : zs ≡ z ∷ ys = cc in rw k (number_is f z r).fits
+    go (Some z) (are ys) r h e (suc i) = let k : zs ≡ z ∷ ys = cc in rw k (h ys refl i)
 
 -- ---- what comes of a list with i numbers read, by the fields that are left
 unfoldable pub outcome : List ℤ → ℕ → List (List ℕ) → Bool × List ℤ
