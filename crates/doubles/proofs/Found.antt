@@ -1,11 +1,10 @@
 -- What the code finds: its constants, which it names by their bits, one double with them, and two.
-use Rattle.std.proofs.Common.{◌≡◌, ℕ, suc, ◌^◌, ◌<◌, ◌≤◌, Bool, true, false, cond, not, ◌&&◌, T, ℤ, pos, nat_abs, sym, refl, ap, ◌∙◌, subst, arith}
+use Rattle.std.proofs.Common.{◌≡◌, ℕ, suc, ◌^◌, ◌<◌, ◌≤◌, Bool, true, false, cond, not, ◌&&◌, T, ℤ, nat_abs, sym, refl, ap, ◌∙◌, subst, arith}
 use lib.Ieee.{Float, binary64, fits, to_bits, of_bits, is_nan, neg, mul, lt, to_signed}
 use Rattle.doubles.specs.declared.Doubles.{Doubles}
-use Rattle.doubles.specs.declared.UnitsAnswer.{UnitsAnswer}
-use Rattle.doubles.specs.declared.Part.TheVariants.{Whole, Other}
+use Rattle.std.specs.Prelude.{Some, None}
 use Rattle.doubles.specs.Units.{is_negative, double_of, is_units, units_of}
-use Rattle.doubles.specs.Record.{accepted, units_answer}
+use Rattle.doubles.specs.Record.{units_in}
 use Rattle.doubles.specs.Code.{part_in}
 use Rattle.doubles.proofs.Value.{power, double_value}
 use Rattle.doubles.proofs.Tests.{minus_power, Below, Cut, cut_says, value_number, accepts, refuses, outside}
@@ -59,11 +58,11 @@ module _ (F : ℕ) {p q : Float} (narrow : F ≤ 52) (P : p ≡ power F) (Q : q 
 
       -- written again as w, whose bits are compared
       module _ {w : Float} (f : fits binary64 x ≡ true) (v : w ≡ double_of F z) where
-        pub read_whole : to_bits binary64 w ≡ to_bits binary64 x → part_in F x ≡ Whole z
+        pub read_whole : to_bits binary64 w ≡ to_bits binary64 x → part_in F x ≡ Some z
         unfolding part_in
         read_whole s = let k = accepts F x z narrow (subst T (sym f) tt) cut_small (ap (to_bits binary64) (sym v) ∙ s) in rw (k.0, k.1)
 
-        pub read_other : (to_bits binary64 w ≡ to_bits binary64 x → ⊥) → part_in F x ≡ Other
+        pub read_other : (to_bits binary64 w ≡ to_bits binary64 x → ⊥) → part_in F x ≡ None
         unfolding part_in
         read_other n = rw (refuses F x z narrow (subst T (sym f) tt) (rw P at e) (λ s. n (ap (to_bits binary64) v ∙ s)))
 
@@ -72,29 +71,26 @@ and_false : (a b : Bool) → b ≡ false → a && b ≡ false
 and_false true b e = e
 and_false false b e = refl
 
-whole_says : (b : Bool) (u : ℤ) {a : ℤ} → cond b (Whole u) Other ≡ Whole a → (b ≡ true) × (u ≡ a)
-whole_says true u e = (refl, cc)
-whole_says false u e = let z : ◌≡◌ {A = ℕ} 0 1 = cc in absurd (omega arith)
+some_says : (b : Bool) (u : ℤ) {a : ℤ} → cond b (Some u) None ≡ Some a → (b ≡ true) × (u ≡ a)
+some_says true u e = (refl, cc)
+some_says false u e = let z : ◌≡◌ {A = ℕ} 0 1 = cc in absurd (omega arith)
 
-other_says : (b : Bool) (u : ℤ) → cond b (Whole u) Other ≡ Other → b ≡ false
-other_says true u e = let z : ◌≡◌ {A = ℕ} 0 1 = cc in absurd (omega arith)
-other_says false u e = refl
+none_says : (b : Bool) (u : ℤ) → cond b (Some u) None ≡ None → b ≡ false
+none_says true u e = let z : ◌≡◌ {A = ℕ} 0 1 = cc in absurd (omega arith)
+none_says false u e = refl
 
 module _ (F : ℕ) (d : Doubles) where
-  abbrev nine : UnitsAnswer
-  nine = record { refusal = pos 9; x = pos 0; y = pos 0 }
-
-  pub both_whole : {a b : ℤ} → part_in F d.x ≡ Whole a → part_in F d.y ≡ Whole b → units_answer F d ≡ accepted a b
-  unfolding units_answer part_in
-  both_whole p q =
-      let k = whole_says (is_units F d.x) (units_of F d.x) p in
-      let l = whole_says (is_units F d.y) (units_of F d.y) q in
+  pub both_some : {a b : ℤ} → part_in F d.x ≡ Some a → part_in F d.y ≡ Some b → units_in F d ≡ Some (record { x = a; y = b })
+  unfolding units_in part_in
+  both_some p q =
+      let k = some_says (is_units F d.x) (units_of F d.x) p in
+      let l = some_says (is_units F d.y) (units_of F d.y) q in
       rw (k.0, l.0, k.1, l.1)
 
-  pub first_other : part_in F d.x ≡ Other → units_answer F d ≡ nine
-  unfolding units_answer part_in
-  first_other p = rw (other_says (is_units F d.x) (units_of F d.x) p)
+  pub first_none : part_in F d.x ≡ None → units_in F d ≡ None
+  unfolding units_in part_in
+  first_none p = rw (none_says (is_units F d.x) (units_of F d.x) p)
 
-  pub second_other : part_in F d.y ≡ Other → units_answer F d ≡ nine
-  unfolding units_answer part_in
-  second_other p = rw (and_false (is_units F d.x) (is_units F d.y) (other_says (is_units F d.y) (units_of F d.y) p))
+  pub second_none : part_in F d.y ≡ None → units_in F d ≡ None
+  unfolding units_in part_in
+  second_none p = rw (and_false (is_units F d.x) (is_units F d.y) (none_says (is_units F d.y) (units_of F d.y) p))

@@ -10,17 +10,15 @@ use Rattle.point.specs.declared.Point.{Point}
 use Rattle.point.specs.Point.{gauss}
 use Rattle.answer.specs.declared.Refusal.{Refusal}
 use Rattle.answer.specs.declared.Figures.{Figures}
-use Rattle.answer.specs.declared.Answer.{Answer}
-use Rattle.answer.specs.declared.Answer.TheVariants.{Answered, Refused}
-use Rattle.answer.specs.Refusal.{refusal_number}
+use Rattle.answer.specs.Answer.{Answer}
+use Rattle.std.specs.Prelude.{Result, Ok, Err, Some, None}
 use Rattle.logarithm.specs.Answer.{log_answer}
 use Rattle.logarithm.proofs.Convergence.{most}
 use Rattle.logarithm.proofs.Ranges.{Ranged, log_ranges}
 use Rattle.doubles.specs.declared.Doubles.{Doubles}
-use Rattle.doubles.specs.declared.DoublesAnswer.{DoublesAnswer}
 use Rattle.doubles.specs.declared.UnitsAnswer.{UnitsAnswer}
 use Rattle.doubles.specs.Units.{is_negative, double_of, is_units, units_of}
-use Rattle.doubles.specs.Record.{doubles, zeros, doubles_answer, accepted, units_answer, Kept, AnswerKept, WrittenBack}
+use Rattle.doubles.specs.Record.{doubles, in_doubles, doubles_record, units_in, units_record, doubles_answer, accepted, units_answer, Kept, AnswerKept, WrittenBack}
 use Rattle.doubles.proofs.Value.{double_value}
 use Rattle.doubles.proofs.Reading.{units_say, read_written, written_read}
 use Rattle.doubles.proofs.Tests.{value_number}
@@ -44,7 +42,7 @@ below_two F wide {z} s = go (nat_abs z) (2 ^ (F - 4)) (2 ^ suc F) (pos_inj_le (s
 small : (F : ℕ) → 4 ≤ F → {p : Point} → Parts (gauss p) (most F) → Small F p
 small F wide s = record { x = below_two F wide s.re; y = below_two F wide s.im }
 
-pub log_small : (n x y : ℤ) {f : Figures} → log_answer n x y ≡ Answered f → Small 48 f.value
+pub log_small : (n x y : ℤ) {f : Figures} → log_answer n x y ≡ Ok f → Small 48 f.value
 log_small n x y e = small 48 (lit≤ tt) (subst (Ranged 48 n (gi x y)) e (log_ranges n x y)).value
 
 -- ---- NOTHING IS LOST of an answer: each double has its part's value, and the record is read back to the same two numbers
@@ -57,26 +55,21 @@ small_kept F p s =
 
 answer_kept : (F : ℕ) → 4 ≤ F → (n : ℤ) (p : 𝔾) (a : Answer) → Ranged F n p a → AnswerKept F a (doubles_answer F a)
 unfolding doubles_answer
-answer_kept F wide n p (Answered f) r = small_kept F f.value (small F wide r.value)
-answer_kept F wide n p (Refused e) r = tt
+answer_kept F wide n p (Ok f) r = small_kept F f.value (small F wide r.value)
+answer_kept F wide n p (Err e) r = tt
 
 pub log_kept : (n x y : ℤ) → AnswerKept 48 (log_answer n x y) (doubles_answer 48 (log_answer n x y))
 log_kept n x y = answer_kept 48 (lit≤ tt) n (gi x y) (log_answer n x y) (log_ranges n x y)
 
--- an answer in doubles, by its case
-pub answered_is : (F : ℕ) {a : Answer} {f : Figures} → a ≡ Answered f →
-    doubles_answer F a ≡ record { refusal = pos 0; parts = doubles F f.value.x f.value.y }
+-- what C is handed of an answer in doubles
+pub record_is : (F : ℕ) (a : Answer) → doubles_record (in_doubles F a) ≡ doubles_answer F a
 unfolding doubles_answer
-answered_is F e = rw e
+record_is F (Ok f) = refl
+record_is F (Err r) = refl
 
-pub refused_is : (F : ℕ) {a : Answer} {r : Refusal} → a ≡ Refused r → doubles_answer F a ≡ record { refusal = refusal_number r; parts = zeros }
-unfolding doubles_answer
-refused_is F e = rw e
-
--- what equals the answer in doubles meets both clauses of the call
-pub given : (n x y : ℤ) {r : DoublesAnswer} → r ≡ doubles_answer 48 (log_answer n x y) →
-    (r ≡ doubles_answer 48 (log_answer n x y)) × AnswerKept 48 (log_answer n x y) r
-given n x y e = (e, subst (AnswerKept 48 (log_answer n x y)) (sym e) (log_kept n x y))
+pub given : (n x y : ℤ) {r : Result Doubles Refusal} → r ≡ in_doubles 48 (log_answer n x y) → AnswerKept 48 (log_answer n x y) (doubles_record r)
+given n x y e =
+    subst (AnswerKept 48 (log_answer n x y)) (sym (ap doubles_record e ∙ record_is 48 (log_answer n x y))) (log_kept n x y)
 
 -- ---- WHAT IS READ is written back to the same two doubles
 pub read_back : (F : ℕ) → F ≤ 52 → (d : Doubles) → T (fits binary64 d.x) → T (fits binary64 d.y) → WrittenBack F d (units_answer F d)
@@ -108,7 +101,17 @@ bits_back F narrow b h p =
     ap (to_bits binary64) (written_read F x narrow (of_bits-fits binary64 b) p)
     ∙ to_bits-of_bits binary64 b h (value_number x (is_negative (units_of F x)) (nat_abs (units_of F x)) (2 ^ F) u.value)
 
--- what equals a reading meets both clauses of the call
-pub settled : (F : ℕ) → F ≤ 52 → (d : Doubles) {r : UnitsAnswer} → fits binary64 d.x ≡ true → fits binary64 d.y ≡ true → units_answer F d ≡ r →
-    (r ≡ units_answer F d) × WrittenBack F d r
-settled F narrow d f g e = (sym e, subst (WrittenBack F d) e (read_back F narrow d (subst T (sym f) tt) (subst T (sym g) tt)))
+-- what C is handed of a reading
+pub units_are : (F : ℕ) (d : Doubles) → units_record (units_in F d) ≡ units_answer F d
+unfolding units_in units_answer
+units_are F d = go (is_units F d.x && is_units F d.y)
+  where
+    go : (b : Bool) → units_record (cond b (Some (record { x = units_of F d.x; y = units_of F d.y })) None)
+        ≡ cond b (accepted (units_of F d.x) (units_of F d.y)) (record { refusal = pos 9; x = pos 0; y = pos 0 })
+    go true = refl
+    go false = refl
+
+pub settled : (F : ℕ) → F ≤ 52 → (d : Doubles) {p : Point} → fits binary64 d.x ≡ true → fits binary64 d.y ≡ true → units_in F d ≡ Some p →
+    doubles F p.x p.y ≡ d
+settled F narrow d f g e =
+    subst (WrittenBack F d) (sym (units_are F d) ∙ ap units_record e) (read_back F narrow d (subst T (sym f) tt) (subst T (sym g) tt)) refl

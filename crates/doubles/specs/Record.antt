@@ -1,9 +1,9 @@
 -- What the two calls give, for every input. One is 2^F units, and 01 has F = 48.
-use Rattle.std.specs.Prelude.{◌≡◌, ℕ, false, cond, ◌&&◌, ℤ, pos}
+use Rattle.std.specs.Prelude.{◌≡◌, Option, Some, None, Result, ℕ, false, cond, ◌&&◌, ℤ, pos, Ok, Err}
 use Rattle.std.specs.Float.{fin}
 use Rattle.point.specs.declared.Point.{Point}
-use Rattle.answer.specs.declared.Answer.{Answer}
-use Rattle.answer.specs.declared.Answer.TheVariants.{Answered, Refused}
+use Rattle.answer.specs.Answer.{Answer}
+use Rattle.answer.specs.declared.Refusal.{Refusal}
 use Rattle.answer.specs.Refusal.{refusal_number}
 use Rattle.doubles.specs.declared.Doubles.{Doubles}
 use Rattle.doubles.specs.declared.DoublesAnswer.{DoublesAnswer}
@@ -19,14 +19,31 @@ doubles F x y = record { x = double_of F x; y = double_of F y }
 abbrev pub zeros : Doubles
 zeros = record { x = fin false 0 (pos 0); y = fin false 0 (pos 0) }
 
+-- an answer with its two parts as doubles, and what C is handed of it
+abbrev pub in_doubles : ℕ → Answer → Result Doubles Refusal
+in_doubles F (Ok f) = Ok (doubles F f.value.x f.value.y)
+in_doubles F (Err r) = Err r
+
+abbrev pub doubles_record : Result Doubles Refusal → DoublesAnswer
+doubles_record (Ok d) = record { refusal = pos 0; parts = d }
+doubles_record (Err r) = record { refusal = refusal_number r; parts = zeros }
+
 -- "A LOG answer is given as a record of two doubles"; "A refused LOG gives its number and two zeros"
 unfoldable pub doubles_answer : ℕ → Answer → DoublesAnswer
-doubles_answer F (Answered f) = record { refusal = pos 0; parts = doubles F f.value.x f.value.y }
-doubles_answer F (Refused r) = record { refusal = refusal_number r; parts = zeros }
+doubles_answer F (Ok f) = record { refusal = pos 0; parts = doubles F f.value.x f.value.y }
+doubles_answer F (Err r) = record { refusal = refusal_number r; parts = zeros }
 
 -- ---- reading
 abbrev pub accepted : ℤ → ℤ → UnitsAnswer
 accepted x y = record { refusal = pos 0; x = x; y = y }
+
+-- two doubles in units, where both are a number of them, and what C is handed of it
+unfoldable pub units_in : ℕ → Doubles → Option Point
+units_in F d = cond (is_units F d.x && is_units F d.y) (Some (record { x = units_of F d.x; y = units_of F d.y })) None
+
+abbrev pub units_record : Option Point → UnitsAnswer
+units_record (Some p) = accepted p.x p.y
+units_record None = record { refusal = pos 9; x = pos 0; y = pos 0 }
 
 -- "Refused: 9, a double of any other kind, with zeros; reading has no other refusal"
 unfoldable pub units_answer : ℕ → Doubles → UnitsAnswer
@@ -43,8 +60,8 @@ pub record Kept (F : ℕ) (p : Point) (d : Doubles) : Type 0 where
 
 -- of an answer, where there is one
 abbrev pub AnswerKept : ℕ → Answer → DoublesAnswer → Type 0
-AnswerKept F (Answered f) r = Kept F f.value r.parts
-AnswerKept F (Refused e) r = Unit {0}
+AnswerKept F (Ok f) r = Kept F f.value r.parts
+AnswerKept F (Err e) r = Unit {0}
 
 -- and the other way: what is read is written as the same two doubles, bit for bit
 abbrev pub WrittenBack : ℕ → Doubles → UnitsAnswer → Type 0

@@ -1,17 +1,14 @@
 -- The call's three equations, by the way it takes.
-use mathlib.Core.Path.{◌≡◌, refl, sym, ◌∙◌}
+use mathlib.Core.Path.{◌≡◌}
+use mathlib.Core.Bool.{false}
 use mathlib.Core.List.{List, ◌++◌}
 use mathlib.Core.Logic.{◌⊎◌, inl, inr}
-use Prim.Native.Nat.{ℕ, ◌+◌, ◌≤◌, ◌<◌, ◌^◌}
+use Prim.Native.Nat.{ℕ, ◌+◌, ◌≤◌}
 use native.Mathlib.Omega.{arith}
-use lib.IntN.{pos}
 use lib.ListN.{length, drop}
-use mir.Syntax.{w64}
-use mir.Val.{to_z}
-use lib.Dec.{eqb}
-use borrow.Author.Tests.{lt-ltb, le-ltb, ltb-false, ne_eqb}
+use lib.Dec.{eqb, ltb}
+use borrow.Author.Tests.{ltb-false}
 use Rattle.algebra.proofs.Test.{either}
-use Rattle.word.proofs.Fits.{word_pos}
 use Rattle.buffer.specs.Code.{Put}
 use Rattle.buffer.proofs.Put.{to_front}
 use Rattle.merge.specs.Merge.{merge}
@@ -36,19 +33,10 @@ refusal_most a b out = either (is_short a b out) (λ e. rw e (omega arith)) (λ 
     most (inr (inr (inl e))) = omega arith
     most (inr (inr (inr e))) = omega arith
 
-module _ (a b out : List ℕ) where
-  pub short : length out < length a + length b + 2 →
-      (pos 6 ≡ pos (refusal_for a b out)) × ((◌≡◌ {A = ℕ} 0 (length (bytes_for a b out))) × (out ≡ bytes_for a b out ++ out))
-  short h = rw (lt-ltb _ _ h) (refl, (refl, refl))
+module _ (a b out : List ℕ) (room : ltb (length out) (length a + length b + 2) ≡ false) where
+  pub enough : length (text (merge a b).copied) ≤ length out
+  enough = omega (arith, merged_fits a b, ltb-false (length out) (length a + length b + 2) room)
 
-  module _ (room : length a + length b + 2 ≤ length out) {r : ℕ} (e : r ≡ (merge a b).refusal) where
-    pub turned_away : (r ≡ 0 → ⊥) → r < 2 ^ 63 →
-        (to_z w64 r ≡ pos (refusal_for a b out)) × ((◌≡◌ {A = ℕ} 0 (length (bytes_for a b out))) × (out ≡ bytes_for a b out ++ out))
-    turned_away n h = rw (le-ltb _ _ room, ← e, ne_eqb _ _ n, word_pos r h) (refl, (refl, refl))
-
-    pub all_done : r ≡ 0 → {out' : List ℕ} {n : ℕ} → Put out 0 (text (merge a b).copied) out' n →
-        (pos 0 ≡ pos (refusal_for a b out)) × ((n ≡ length (bytes_for a b out)) × (out' ≡ bytes_for a b out ++ drop n out))
-    all_done z p =
-        let f = to_front p (omega (arith, merged_fits a b)) in
-        let none : (merge a b).refusal ≡ 0 = sym e ∙ z in
-        rw (le-ltb _ _ room, none) (refl, (f.count, rw f.count f.bytes))
+  pub all_done : 0 ≡ (merge a b).refusal → {out' : List ℕ} {n : ℕ} → Put out 0 (text (merge a b).copied) out' n →
+      out' ≡ bytes_for a b out ++ drop n out
+  all_done e p = let f = to_front p enough in rw (room, ← e, f.count) f.bytes

@@ -1,13 +1,14 @@
 -- The first line of a sheet and what is behind it, as the search for a newline finds them.
-use mathlib.Core.Path.{◌≡◌, sym, ap, ◌∙◌}
+use mathlib.Core.Path.{◌≡◌, ap, ◌∙◌}
 use mathlib.Core.List.{List}
-use Prim.Native.Nat.{ℕ, suc, ◌+◌, ◌-◌, ◌≤◌}
+use Prim.Native.Nat.{ℕ, ◌+◌, ◌-◌, ◌≤◌, min}
 use native.Mathlib.Omega.{arith}
 use native.Mathlib.Numerals.{add-one}
 use native.Mathlib.Nat.{le_refl}
 use lib.IntN.{ℤ}
-use lib.ListN.{length, take, drop, length-drop, drop_of_length-le}
+use lib.ListN.{length, take, drop, length-drop}
 use lib.Seq.{take_all, length-take-le}
+use Rattle.std.proofs.lemmas.List.{drop_min}
 use Rattle.scan.specs.Find.{before, find_byte}
 use Rattle.scan.proofs.Find.{ended}
 use Rattle.stream.specs.Machine.{lines}
@@ -41,12 +42,6 @@ module _ (s : List ℕ) (e : ℕ) (found : e ≡ find_byte 10 s 0) where
   part : (k : ℕ) → take (length s - k) (drop k s) ≡ drop k s
   part k = take_all (length s - k) (drop k s) (simp length-drop (le_refl (length s - k)))
 
-  pub behind_newline : take (length s - (e + 1)) (drop (e + 1) s) ≡ behind s
+  pub behind_from : {n : ℕ} → n ≡ min (e + 1) (length s) → take (length s - n) (drop n s) ≡ behind s
   unfolding behind
-  behind_newline = part (e + 1) ∙ rw (add-one, at)
-
-  pub behind_last : length s ≤ e → take (length s - e) (drop e s) ≡ behind s
-  unfolding behind
-  behind_last h =
-      let n : length s ≤ suc (before 10 s) = omega (arith, at) in
-      part e ∙ (drop_of_length-le s h ∙ sym (drop_of_length-le s n))
+  behind_from {n} h = part n ∙ rw (h, drop_min, add-one, at)

@@ -17,9 +17,10 @@ use Rattle.scan.proofs.Fields.{same_list}
 use Rattle.text.specs.Line.{read_line, serial_of}
 use Rattle.merge.specs.declared.Front.{Front}
 use Rattle.merge.specs.declared.Choice.{Choice}
-use Rattle.merge.specs.Merge.{by_number, front_line, by_serial, choice, Merge, stopped, ◌then◌, act, alone, follow, merge_from}
+use Rattle.merge.specs.Merge.{refusal_number, by_number, front_line, by_serial, choice, Merge, stopped, ◌then◌, act, alone, follow, merge_from}
 use Rattle.merge.specs.declared.Front.TheVariants.{Malformed, Fallen, Risen}
 use Rattle.merge.specs.declared.Choice.TheVariants.{Done, First, Passed, Second, Refused}
+use Rattle.merge.specs.declared.MergeError.TheVariants as err
 
 -- ---- a line and its serial
 pub record Numbered (l : List ℕ) (n : ℤ) : Type 0 where
@@ -60,12 +61,12 @@ pub data BySerial (m n : ℤ) (same : Bool) : Choice → Type 0 where
   below : m ⋖ n → BySerial m n same (First m)
   above : n ⋖ m → BySerial m n same (Second n)
   twins : m ≡ n → same ≡ true → BySerial m n same (Passed m)
-  differ : m ≡ n → same ≡ false → BySerial m n same (Refused 8)
+  differ : m ≡ n → same ≡ false → BySerial m n same (Refused err.Differing)
 
 pub by_serial_lem : (m n : ℤ) (same : Bool) → BySerial m n same (by_serial m n same)
 by_serial_lem m n same =
-    tested< (λ t. BySerial m n same (cond t (First m) (cond (lt_z n m) (Second n) (cond same (Passed m) (Refused 8))))) m n (λ h. below h)
-    (λ h. tested< (λ t. BySerial m n same (cond t (Second n) (cond same (Passed m) (Refused 8)))) n m (λ k. above k)
+    tested< (λ t. BySerial m n same (cond t (First m) (cond (lt_z n m) (Second n) (cond same (Passed m) (Refused err.Differing))))) m n (λ h. below h)
+    (λ h. tested< (λ t. BySerial m n same (cond t (Second n) (cond same (Passed m) (Refused err.Differing)))) n m (λ k. above k)
     (λ k. either same (λ e. rw e (twins (⩽_antisym k h) refl)) (λ e. rw e (differ (⩽_antisym k h) refl))))
 
 -- ---- what a choice tells of the pair of lines
@@ -97,7 +98,7 @@ eight = inr (inr refl)
 
 abbrev Told : ℤ → ℤ → List ℕ → List ℕ → Choice → Type 0
 Told j k a b Done = ⊥
-Told j k a b (Refused r) = Stops r
+Told j k a b (Refused e) = Stops (refusal_number e)
 Told j k a b (First n) = Numbered a n × ((j ⋖ n) × Above n b)
 Told j k a b (Passed n) = Numbered a n × ((j ⋖ n) × (a ≡ b))
 Told j k a b (Second n) = Numbered b n × ((k ⋖ n) × Above n a)

@@ -1,6 +1,6 @@
 -- A line that does not stop a merge: its serial stands before the first tab of the sheet.
-use Rattle.std.specs.Prelude.{Option, Some, None}
-use mathlib.Core.Path.{◌≡◌, refl, sym, ap, ◌∙◌}
+use Rattle.std.specs.Prelude.{Option, Some}
+use mathlib.Core.Path.{◌≡◌, refl}
 use mathlib.Core.List.{List}
 use Prim.Native.Nat.{ℕ, ◌≤◌}
 use native.Mathlib.Omega.{arith}
@@ -10,13 +10,12 @@ use lib.Seq.{slice, take-take}
 use Rattle.scan.specs.Decimal.{read_number}
 use Rattle.scan.specs.Find.{before, find_byte}
 use Rattle.scan.proofs.Find.{ended, before_take}
-use Rattle.scan.proofs.Read.{no_number}
 use Rattle.text.proofs.Serial.{first_number}
 use Rattle.stream.specs.Machine.{lines}
 use Rattle.merge.specs.declared.Front.{Front}
 use Rattle.merge.specs.Merge.{front}
 use Rattle.merge.specs.Code.{Passes}
-use Rattle.merge.proofs.Rules.{Numbered, number_is, InFront, malformed, fallen, risen, in_front_lem, front_risen, merges}
+use Rattle.merge.proofs.Rules.{Numbered, InFront, malformed, fallen, risen, in_front_lem, front_risen, merges}
 use Rattle.merge.proofs.Laws.{Rising, end, more, both_rose}
 use Rattle.merge.proofs.Turn.{merge_rest}
 use Rattle.merge.proofs.Found.{front_is, first_length}
@@ -37,13 +36,6 @@ pub record Sure (last : ℤ) (s : List ℕ) (r : Option ℤ) : Type 0 where
   pub serial : ℤ
   pub is : front last (lines s) ≡ Risen serial
   pub «read» : r ≡ Some serial
-
-module _ {last : ℤ} {s : List ℕ} {r : Option ℤ} (h : Sure last s r) where
-  pub not_none : {A : Type 0} → r ≡ None → A
-  not_none e = no_number h.serial (sym e ∙ h.«read»)
-
-  pub risen_as : {z : ℤ} → r ≡ Some z → front last (lines s) ≡ Risen z
-  risen_as e = h.is ∙ ap Risen (number_is (sym h.«read» ∙ e))
 
 module _ (s : List ℕ) (last : ℤ) (n : length s ≡ 0 → ⊥) where
   l : List ℕ

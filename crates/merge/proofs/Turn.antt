@@ -2,6 +2,7 @@
 use mathlib.Core.Path.{◌≡◌, refl, ap}
 use mathlib.Core.Bool.{Bool}
 use mathlib.Core.List.{List, [], ◌∷◌}
+use mathlib.Core.Logic.{◌⊎◌, inl, inr}
 use Prim.Native.Nat.{ℕ, suc, ◌<◌}
 use native.Mathlib.Omega.{arith}
 use lib.IntN.{ℤ, pos}
@@ -15,8 +16,9 @@ use Rattle.stream.specs.Machine.{lines, lines_from, last_line}
 use Rattle.stream.proofs.Lines.{no_line, some_line}
 use Rattle.merge.specs.declared.Front.{Front}
 use Rattle.merge.specs.declared.Choice.{Choice}
-use Rattle.merge.specs.Merge.{front_line, front, choice, Merge, stopped, ◌then◌, act, alone, follow, merge_from}
-use Rattle.merge.specs.Call.{first_line, behind}
+use Rattle.merge.specs.declared.MergeError.{MergeError}
+use Rattle.merge.specs.Merge.{refusal_number, front_line, front, choice, Merge, stopped, ◌then◌, act, alone, follow, merge_from}
+use Rattle.merge.specs.Call.{first_line, behind, unread}
 use Rattle.merge.specs.declared.Front.TheVariants.{End, Malformed, Fallen, Risen}
 use Rattle.merge.specs.declared.Choice.TheVariants.{Done, First, Passed, Second, Refused}
 
@@ -126,6 +128,15 @@ less : (s : List ℕ) → 0 < length s → length (behind s) < length s
 unfolding behind
 less s h = rw length-drop (omega arith)
 
+-- a step, from a choice on: behind the first sheet's line, written or passed by, or behind the second's
+module _ {c : Choice} {n : ℤ} {r : List ℕ} (s t : List ℕ) where
+  pub read_first : (c ≡ First n) ⊎ (c ≡ Passed n) → r ≡ unread c s t → r ≡ behind s
+  read_first (inl d) p = rw d at p
+  read_first (inr d) p = rw d at p
+
+  pub read_second : c ≡ Second n → r ≡ unread c s t → r ≡ behind t
+  read_second d p = rw d at p
+
 -- ---- THE REST to merge: of s and t, behind lines of the serials j and k, with the lines in front as the code holds them
 pub record Left (s t : List ℕ) (f g : Front) : Type 0 where
   pub j : ℤ
@@ -159,8 +170,12 @@ module _ {s t : List ℕ} {f g : Front} (l : Left s t f g) where
     pub done : c ≡ Done → rest l ≡ stopped 0
     done d = by d
 
-    pub refused : {r : ℕ} → c ≡ Refused r → rest l ≡ stopped r
+    pub refused : {r : MergeError} → c ≡ Refused r → rest l ≡ stopped (refusal_number r)
     refused d = by d
+
+    pub ended : (c ≡ Done) ⊎ ((r : MergeError) × (c ≡ Refused r)) → (r : ℕ) × (rest l ≡ stopped r)
+    ended (inl d) = (0, done d)
+    ended (inr d) = (refusal_number d.0, refused d.1)
 
     pub first : {n : ℤ} {r : List ℕ} → c ≡ First n → r ≡ behind s → rest l ≡ first_line s then merge_rest n l.k r t
     first d p = rw p (by d)
@@ -182,3 +197,17 @@ module _ {s t : List ℕ} {f g : Front} (l : Left s t f g) where
 
     pub second_less : {n : ℤ} {r : List ℕ} → c ≡ Second n → r ≡ behind t → length r < length t
     second_less d p = rw p (less t (some_bytes t (reads d)))
+
+    pub first_refusal : {n : ℤ} {r : List ℕ} → (c ≡ First n) ⊎ (c ≡ Passed n) → r ≡ unread c s t → (rest l).refusal ≡ (merge_rest n l.k r t).refusal
+    first_refusal (inl d) p = ap (λ (m : Merge). m.refusal) (first d (read_first s t (inl d) p))
+    first_refusal (inr d) p = ap (λ (m : Merge). m.refusal) (passed d (read_first s t (inr d) p))
+
+    pub second_refusal : {n : ℤ} {r : List ℕ} → c ≡ Second n → r ≡ unread c s t → (rest l).refusal ≡ (merge_rest l.j n s r).refusal
+    second_refusal d p = ap (λ (m : Merge). m.refusal) (second d (read_second s t d p))
+
+    pub first_behind_less : {n : ℤ} {r : List ℕ} → (c ≡ First n) ⊎ (c ≡ Passed n) → r ≡ unread c s t → length r < length s
+    first_behind_less (inl d) p = first_less d (read_first s t (inl d) p)
+    first_behind_less (inr d) p = passed_less d (read_first s t (inr d) p)
+
+    pub second_behind_less : {n : ℤ} {r : List ℕ} → c ≡ Second n → r ≡ unread c s t → length r < length t
+    second_behind_less d p = second_less d (read_second s t d p)

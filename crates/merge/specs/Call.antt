@@ -1,8 +1,9 @@
 -- What a step hands back, and what the call of the merge gives and writes (02, E4).
-use Rattle.std.specs.Prelude.{Bool, cond, List, [], ◌∷◌, ◌++◌, ℕ, suc, ◌+◌, ltb, eqb, length, take, drop}
+use Rattle.std.specs.Prelude.{Result, Ok, Err, Bool, cond, List, [], ◌∷◌, ◌++◌, ℕ, suc, ◌+◌, ltb, eqb, length, take, drop}
 use Rattle.scan.specs.Find.{before}
 use Rattle.merge.specs.declared.Choice.{Choice}
-use Rattle.merge.specs.Merge.{merge}
+use Rattle.merge.specs.declared.MergeError.{MergeError}
+use Rattle.merge.specs.Merge.{refusal_number, merge}
 use Rattle.merge.specs.declared.Choice.TheVariants.{Done, First, Passed, Second, Refused}
 
 -- ---- A STEP: the bytes of the first line of a sheet, and those behind it
@@ -15,7 +16,7 @@ behind s = drop (suc (before 10 s)) s
 -- "A merge step hands back the unread rest of whichever sheet it read from"; where it reads no line, all of the first
 abbrev pub unread : Choice → List ℕ → List ℕ → List ℕ
 unread Done a b = a
-unread (Refused r) a b = a
+unread (Refused e) a b = a
 unread (First n) a b = behind a
 unread (Passed n) a b = behind a
 unread (Second n) a b = behind b
@@ -36,3 +37,12 @@ text (l ∷ ls) = l ++ 10 ∷ text ls
 -- what is written: nothing "with a refusal, which leaves the output unchanged"
 abbrev pub bytes_for : List ℕ → List ℕ → List ℕ → List ℕ
 bytes_for a b out = cond (eqb (refusal_for a b out) 0) (text (merge a b).copied) []
+
+-- the two figures of what the call gives: the refusal's number, or 0, and the count of bytes, 0 with a refusal
+abbrev pub refusal_of : {A : Type 0} → Result A MergeError → ℕ
+refusal_of (Ok n) = 0
+refusal_of (Err e) = refusal_number e
+
+abbrev pub count_of : Result ℕ MergeError → ℕ
+count_of (Ok n) = n
+count_of (Err e) = 0

@@ -6,8 +6,17 @@ use Rattle.text.specs.Line.{read_line, serial_of}
 use Rattle.stream.specs.Machine.{lines}
 use Rattle.merge.specs.declared.Front.{Front}
 use Rattle.merge.specs.declared.Choice.{Choice}
+use Rattle.merge.specs.declared.MergeError.{MergeError}
 use Rattle.merge.specs.declared.Front.TheVariants.{End, Malformed, Fallen, Risen}
 use Rattle.merge.specs.declared.Choice.TheVariants.{Done, First, Passed, Second, Refused}
+use Rattle.merge.specs.declared.MergeError.TheVariants as err
+
+-- ---- THE REFUSALS: "a malformed line", too little room, "a falling or repeated number", "one number with two differing lines"
+abbrev pub refusal_number : MergeError → ℕ
+refusal_number err.Malformed = 5
+refusal_number err.NoRoom = 6
+refusal_number err.Fallen = 7
+refusal_number err.Differing = 8
 
 -- ---- THE LINE IN FRONT of what is left of a sheet, behind a line with the serial `last`: malformed, of "a falling or repeated number", or neither
 abbrev pub by_number : ℤ → Option ℤ → Front
@@ -24,21 +33,21 @@ front last (l ∷ ls) = front_line last l
 -- ---- THE CHOICE at the lines in front of two sheets, which are the same, byte by byte, or not
 -- two serials: "where both sheets have equal lines under one number, the step passes the first sheet's by"; "8, one number with two differing lines"
 abbrev pub by_serial : ℤ → ℤ → Bool → Choice
-by_serial m n same = cond (lt_z m n) (First m) (cond (lt_z n m) (Second n) (cond same (Passed m) (Refused 8)))
+by_serial m n same = cond (lt_z m n) (First m) (cond (lt_z n m) (Second n) (cond same (Passed m) (Refused err.Differing)))
 
 -- "a malformed line stops the merge with 5", on either side; then a fallen one "with 7", on either; 8 comes "after 5 and 7 at the same pair of lines"
 unfoldable pub choice : Front → Front → Bool → Choice
-choice Malformed g same = Refused 5
-choice Fallen Malformed same = Refused 5
-choice Fallen Fallen same = Refused 7
-choice Fallen End same = Refused 7
-choice Fallen (Risen n) same = Refused 7
-choice End Malformed same = Refused 5
-choice End Fallen same = Refused 7
+choice Malformed g same = Refused err.Malformed
+choice Fallen Malformed same = Refused err.Malformed
+choice Fallen Fallen same = Refused err.Fallen
+choice Fallen End same = Refused err.Fallen
+choice Fallen (Risen n) same = Refused err.Fallen
+choice End Malformed same = Refused err.Malformed
+choice End Fallen same = Refused err.Fallen
 choice End End same = Done
 choice End (Risen n) same = Second n
-choice (Risen m) Malformed same = Refused 5
-choice (Risen m) Fallen same = Refused 7
+choice (Risen m) Malformed same = Refused err.Malformed
+choice (Risen m) Fallen same = Refused err.Fallen
 choice (Risen m) End same = First m
 choice (Risen m) (Risen n) same = by_serial m n same
 
@@ -58,7 +67,7 @@ abbrev pub ◌then◌ : List ℕ → Merge → Merge
 -- what a choice leads to: the merge goes on behind the first sheet's line, written or passed by, or behind the second's, written
 abbrev pub act : Choice → (ℤ → Merge) → (ℤ → Merge) → (ℤ → Merge) → Merge
 act Done first passed second = stopped 0
-act (Refused r) first passed second = stopped r
+act (Refused e) first passed second = stopped (refusal_number e)
 act (First n) first passed second = first n
 act (Passed n) first passed second = passed n
 act (Second n) first passed second = second n

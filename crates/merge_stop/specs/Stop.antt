@@ -5,7 +5,7 @@ use Rattle.stream.specs.Machine.{lines}
 use Rattle.merge.specs.declared.Front.{Front}
 use Rattle.merge.specs.declared.Choice.{Choice}
 use Rattle.merge_stop.specs.declared.Stop.{Stop}
-use Rattle.merge.specs.Merge.{front_line, choice}
+use Rattle.merge.specs.Merge.{refusal_number, front_line, choice}
 use Rattle.merge.specs.declared.Front.TheVariants.{End, Malformed, Fallen, Risen}
 use Rattle.merge.specs.declared.Choice.TheVariants.{Done, First, Passed, Second, Refused}
 
@@ -24,7 +24,8 @@ none = record { refusal = pos 0; first = 0; second = 0 }
 -- ---- A PAIR OF LINES that is met, f the h-th of the first sheet and g the i-th of the second: what the choice there leads to
 abbrev pub chosen : ℕ → ℕ → Front → Front → Choice → (ℤ → Stop) → (ℤ → Stop) → Stop
 chosen h i f g Done first second = none
-chosen h i f g (Refused r) first second = record { refusal = pos r; first = named r f h; second = named r g i }
+chosen h i f g (Refused e) first second =
+    let r = refusal_number e in record { refusal = pos r; first = named r f h; second = named r g i }
 chosen h i f g (First n) first second = first n
 chosen h i f g (Passed n) first second = first n
 chosen h i f g (Second n) first second = second n

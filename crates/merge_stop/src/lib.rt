@@ -2,10 +2,10 @@
 #![tactic(auto)]
 
 ghost use Rattle.std.specs.Prelude.{◌≡◌, pos};
-ghost use Rattle.merge.specs.Merge.{merge};
+ghost use Rattle.merge.specs.Merge.{refusal_number, merge};
 ghost use Rattle.merge_stop.specs.Stop.{named, stop};
 
-use merge::{Choice, Front};
+use merge::{Choice, Front, MergeError};
 
 // Where a merge stops: the refusal number or 0, and of each sheet the line that is refused, counted from 1, or 0 where it is none of that sheet.
 #[repr(C)]
@@ -16,15 +16,16 @@ pub struct Stop {
     pub second: usize,
 }
 
-// The i-th line of a sheet, which is f, where the refusal r is due to it, else 0.
-fn name_line(r: u8, f: Front, i: usize) -> usize
-    ensures { result ≡ named r f i }
+// The i-th line of a sheet, which is f, where the refusal e is due to it, else 0.
+#[tactic(auto, unfolding(crate::specs::Stop::named))]
+fn name_line(e: MergeError, f: Front, i: usize) -> usize
+    ensures { result ≡ named (refusal_number e) f i }
 {
-    match f {
-        Front::End => 0,
-        Front::Malformed => if r == 5 { i } else { 0 },
-        Front::Fallen => if r == 7 { i } else { 0 },
-        Front::Risen(_) => if r == 8 { i } else { 0 },
+    match (e, f) {
+        (MergeError::Malformed, Front::Malformed)
+        | (MergeError::Fallen, Front::Fallen)
+        | (MergeError::Differing, Front::Risen(_)) => i,
+        _ => 0,
     }
 }
 
@@ -40,39 +41,27 @@ pub fn stopped_at<'a>(a: &'a [u8], b: &'a [u8]) -> Stop
     // f is the h-th line of the first sheet, g the i-th of the second
     let mut h: usize = 1;
     let mut i: usize = 1;
-    loop {
+    'lines: loop {
         let c = merge::choose(p, q, f, g);
-        match c {
+        match &c {
             Choice::Done => return Stop {
                 refusal: 0,
                 first: 0,
                 second: 0,
             },
-            Choice::Refused(r) => {
-                let first = name_line(r, f, h);
-                let second = name_line(r, g, i);
-                return Stop {
-                    refusal: r as i64,
-                    first,
-                    second,
-                };
-            }
-            Choice::First(n) => {
-                let r = merge::step(p, q, c);
-                p = r;
-                f = merge::read_front(p, n);
-                h += 1;
-            }
-            Choice::Passed(n) => {
-                let r = merge::step(p, q, c);
-                p = r;
-                f = merge::read_front(p, n);
+            Choice::Refused(e) => return Stop {
+                refusal: i64::from(*e),
+                first: name_line(*e, f, h),
+                second: name_line(*e, g, i),
+            },
+            Choice::First(n) | Choice::Passed(n) => {
+                p = merge::step(p, q, c);
+                f = merge::read_front(p, *n);
                 h += 1;
             }
             Choice::Second(n) => {
-                let r = merge::step(p, q, c);
-                q = r;
-                g = merge::read_front(q, n);
+                q = merge::step(p, q, c);
+                g = merge::read_front(q, *n);
                 i += 1;
             }
         }

@@ -6,8 +6,8 @@ use Rattle.merge.specs.Merge.{merge}
 use Rattle.merge.proofs.Turn.{Left, rest}
 use Rattle.merge.proofs.decide.Given as goal
 
-abbrev pub invariant-loop-r : goal.invariant-loop-r
-invariant-loop-r l = (k : Left l.p l.q l.f l.g) × ((rest k).refusal ≡ (merge l.a l.b).refusal)
+abbrev pub invariant-lines : goal.invariant-lines
+invariant-lines l = (k : Left l.p l.q l.f l.g) × ((rest k).refusal ≡ (merge l.a l.b).refusal)
 
-abbrev pub decreases-loop-r : goal.decreases-loop-r
-decreases-loop-r l = length l.p + length l.q
+abbrev pub decreases-lines : goal.decreases-lines
+decreases-lines l = length l.p + length l.q

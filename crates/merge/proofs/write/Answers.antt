@@ -12,15 +12,15 @@ use Rattle.stream.specs.Machine.{lines}
 use Rattle.merge.specs.declared.Front.{Front}
 use Rattle.merge.specs.Merge.{merge}
 use Rattle.merge.specs.Call.{text}
-use Rattle.merge.proofs.Turn.{merge_rest, Left, rest, whole, behind_first, behind_second, done, refused, first, passed, second, first_less, passed_less, second_less}
+use Rattle.merge.proofs.Turn.{merge_rest, Left, rest, whole, behind_first, behind_second, ended, first, passed, second, first_less, passed_less, second_less}
 use Rattle.merge.proofs.Written.{Reached, Writing, start as begun, all_written, nothing_written, line_written, line_fits, first_fits, first_written, rest_fits, rest_written}
 use Rattle.merge.proofs.Follows.{one_left}
 use Rattle.merge.proofs.Sure.{both_pass}
 use Rattle.merge.proofs.write.Goals as goal
 
-pub loop-p-init : goal.loop-p-init
+pub lines-init : goal.lines-init
 unfolding merge merge_rest
-loop-p-init c =
+lines-init c =
     let s = c.args in
     let p = both_pass (pos 0) (pos 0) s.a.now s.b.now c.requires.b_value in (
       whole (c.sure_front-f.ensures (pos 0) p.0) (c.sure_front-g.ensures (pos 0) p.1),
@@ -28,68 +28,65 @@ loop-p-init c =
     )
 
 pub returns-in-Done : goal.returns-in-Done
-returns-in-Done c = let i = c.loop-p.invariant in all_written i.1 (done i.0 c.choose-c.ensures c.in-Done.is)
-
-pub returns-in-Refused : goal.returns-in-Refused
-returns-in-Refused c = let i = c.loop-p.invariant in all_written i.1 (refused i.0 c.choose-c.ensures c.in-Refused.is)
+returns-in-Done c = let i = c.lines.invariant in all_written i.1 (ended i.0 c.choose-c.ensures c.in-Done.is).1
 
 pub put_first-w-requires : goal.put_first-w-requires
 put_first-w-requires c =
-    let i = c.loop-p.invariant in
+    let i = c.lines.invariant in
     line_fits i.1 _ _ (first i.0 c.choose-c.ensures c.in-First.is refl) c.requires.b_in_bounds
 
-pub loop-p-smaller-in-First : goal.loop-p-smaller-in-First
-loop-p-smaller-in-First c =
-    let behind = rw c.in-First.is at c.step-r.ensures in
-    omega (arith, first_less c.loop-p.invariant.0 c.choose-c.ensures c.in-First.is behind)
+pub lines-smaller-in-First : goal.lines-smaller-in-First
+lines-smaller-in-First c =
+    let behind = rw c.in-First.is at c.step-p.ensures in
+    omega (arith, first_less c.lines.invariant.0 c.choose-c.ensures c.in-First.is behind)
 
-pub loop-p-preserved-in-First : goal.loop-p-preserved-in-First
-loop-p-preserved-in-First c =
-    let i = c.loop-p.invariant in
+pub lines-preserved-in-First : goal.lines-preserved-in-First
+lines-preserved-in-First c =
+    let i = c.lines.invariant in
     let n = c.in-First.field-0 in
-    let r = c.step-r.result.now in
-    let is = first i.0 c.choose-c.ensures c.in-First.is (rw c.in-First.is at c.step-r.ensures) in
+    let r = c.step-p.result.now in
+    let is = first i.0 c.choose-c.ensures c.in-First.is (rw c.in-First.is at c.step-p.ensures) in
     let left = line_written i.1 _ _ is c.put_first-w.ensures in
-    (behind_first i.0 n r (c.sure_front-f-in-First.ensures n (both_pass n i.0.k r c.loop-p.q.now left.free).0), left)
+    (behind_first i.0 n r (c.sure_front-f-in-First.ensures n (both_pass n i.0.k r c.lines.q.now left.free).0), left)
 
-pub loop-p-smaller-in-Passed : goal.loop-p-smaller-in-Passed
-loop-p-smaller-in-Passed c =
-    let behind = rw c.in-Passed.is at c.step-r-in-Passed.ensures in
-    omega (arith, passed_less c.loop-p.invariant.0 c.choose-c.ensures c.in-Passed.is behind)
+pub lines-smaller-in-Passed : goal.lines-smaller-in-Passed
+lines-smaller-in-Passed c =
+    let behind = rw c.in-Passed.is at c.step-p-in-Passed.ensures in
+    omega (arith, passed_less c.lines.invariant.0 c.choose-c.ensures c.in-Passed.is behind)
 
-pub loop-p-preserved-in-Passed : goal.loop-p-preserved-in-Passed
-loop-p-preserved-in-Passed c =
-    let i = c.loop-p.invariant in
+pub lines-preserved-in-Passed : goal.lines-preserved-in-Passed
+lines-preserved-in-Passed c =
+    let i = c.lines.invariant in
     let n = c.in-Passed.field-0 in
-    let r = c.step-r-in-Passed.result.now in
-    let is = passed i.0 c.choose-c.ensures c.in-Passed.is (rw c.in-Passed.is at c.step-r-in-Passed.ensures) in
+    let r = c.step-p-in-Passed.result.now in
+    let is = passed i.0 c.choose-c.ensures c.in-Passed.is (rw c.in-Passed.is at c.step-p-in-Passed.ensures) in
     let left = nothing_written i.1 is in
-    (behind_first i.0 n r (c.sure_front-f-in-Passed.ensures n (both_pass n i.0.k r c.loop-p.q.now left.free).0), left)
+    (behind_first i.0 n r (c.sure_front-f-in-Passed.ensures n (both_pass n i.0.k r c.lines.q.now left.free).0), left)
 
 pub put_first-w-requires-in-Second : goal.put_first-w-requires-in-Second
 put_first-w-requires-in-Second c =
-    let i = c.loop-p.invariant in
+    let i = c.lines.invariant in
     line_fits i.1 _ _ (second i.0 c.choose-c.ensures c.in-Second.is refl) c.requires.b_in_bounds
 
-pub loop-p-smaller : goal.loop-p-smaller
-loop-p-smaller c =
-    let behind = rw c.in-Second.is at c.step-r-in-Second.ensures in
-    omega (arith, second_less c.loop-p.invariant.0 c.choose-c.ensures c.in-Second.is behind)
+pub lines-smaller : goal.lines-smaller
+lines-smaller c =
+    let behind = rw c.in-Second.is at c.step-q.ensures in
+    omega (arith, second_less c.lines.invariant.0 c.choose-c.ensures c.in-Second.is behind)
 
-pub loop-p-preserved : goal.loop-p-preserved
-loop-p-preserved c =
-    let i = c.loop-p.invariant in
+pub lines-preserved : goal.lines-preserved
+lines-preserved c =
+    let i = c.lines.invariant in
     let n = c.in-Second.field-0 in
-    let r = c.step-r-in-Second.result.now in
-    let is = second i.0 c.choose-c.ensures c.in-Second.is (rw c.in-Second.is at c.step-r-in-Second.ensures) in
+    let r = c.step-q.result.now in
+    let is = second i.0 c.choose-c.ensures c.in-Second.is (rw c.in-Second.is at c.step-q.ensures) in
     let left = line_written i.1 _ _ is c.put_first-w-in-Second.ensures in
-    (behind_second i.0 n r (c.sure_front-g-in-Second.ensures n (both_pass i.0.j n c.loop-p.p.now r left.free).1), left)
+    (behind_second i.0 n r (c.sure_front-g-in-Second.ensures n (both_pass i.0.j n c.lines.p.now r left.free).1), left)
 
 -- where the loop ends one sheet has no more lines
 module _ {s t : List ℕ} {f g : Front} {whole b b' : List ℕ} {w : ℕ} (i : (k : Left s t f g) × Writing whole b b' (rest k) w)
-    (ended : (length s ≡ 0) ⊎ (length t ≡ 0)) where
+    (one : (length s ≡ 0) ⊎ (length t ≡ 0)) where
   left : text (rest i.0).copied ≡ text (lines s) ++ text (lines t)
-  left = one_left i.0.j i.0.k s t i.1.free ended
+  left = one_left i.0.j i.0.k s t i.1.free one
 
   fits : length whole ≤ length b → w + length (text (lines s)) ≤ length b'
   fits = first_fits i.1 (text (lines s)) (text (lines t)) left
@@ -99,10 +96,10 @@ module _ {s t : List ℕ} {f g : Front} {whole b b' : List ℕ} {w : ℕ} (i : (
   first_out = first_written i.1 (text (lines s)) (text (lines t)) left
 
 pub put_all-w-requires : goal.put_all-w-requires
-put_all-w-requires c = fits c.loop-p.invariant (search rules) c.requires.b_in_bounds
+put_all-w-requires c = fits c.lines.invariant (search rules) c.requires.b_in_bounds
 
 pub put_all-requires : goal.put_all-requires
-put_all-requires c = rest_fits (first_out c.loop-p.invariant (search rules) c.put_all-w.ensures) c.requires.b_in_bounds
+put_all-requires c = rest_fits (first_out c.lines.invariant (search rules) c.put_all-w.ensures) c.requires.b_in_bounds
 
 pub returns : goal.returns
-returns c = rest_written (first_out c.loop-p.invariant (search rules) c.put_all-w.ensures) c.put_all.ensures
+returns c = rest_written (first_out c.lines.invariant (search rules) c.put_all-w.ensures) c.put_all.ensures

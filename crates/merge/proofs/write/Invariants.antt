@@ -7,9 +7,9 @@ use Rattle.merge.proofs.Turn.{Left, rest}
 use Rattle.merge.proofs.Written.{Writing}
 use Rattle.merge.proofs.write.Given as goal
 
-abbrev pub invariant-loop-p : goal.invariant-loop-p
-invariant-loop-p l =
+abbrev pub invariant-lines : goal.invariant-lines
+invariant-lines l =
     (k : Left l.p l.q l.f l.g) × Writing (text (merge l.a l.b).copied) l.fn.out l.out (rest k) l.w
 
-abbrev pub decreases-loop-p : goal.decreases-loop-p
-decreases-loop-p l = length l.p + length l.q
+abbrev pub decreases-lines : goal.decreases-lines
+decreases-lines l = length l.p + length l.q

@@ -7,9 +7,9 @@ use Rattle.merge.proofs.Turn.{Left}
 use Rattle.merge_stop.proofs.Named.{stop_rest}
 use Rattle.merge_stop.proofs.stopped_at.Given as goal
 
-abbrev pub invariant-loop-r : goal.invariant-loop-r
-invariant-loop-r l =
+abbrev pub invariant-lines : goal.invariant-lines
+invariant-lines l =
     (k : Left l.p l.q l.f l.g) × ((stop_rest l.h l.i k.j k.k l.p l.q ≡ stop l.a l.b) × ((l.h + length l.p ≤ length l.a + 1) × (l.i + length l.q ≤ length l.b + 1)))
 
-abbrev pub decreases-loop-r : goal.decreases-loop-r
-decreases-loop-r l = length l.p + length l.q
+abbrev pub decreases-lines : goal.decreases-lines
+decreases-lines l = length l.p + length l.q
