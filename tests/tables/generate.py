@@ -98,7 +98,7 @@ ghost use Rattle.table_numbers.specs.Rows.{{step_row, part}};
 use step_table::rows{WIDTH} as t;
 use table_numbers::Entry;
 
-const STEPS: [[[Entry; 3]; 3]; {len(steps)}] = [
+static STEPS: [[[Entry; 3]; 3]; {len(steps)}] = [
 {matrices}];
 
 pub fn row(i: usize, place: usize) -> [Entry; 3]

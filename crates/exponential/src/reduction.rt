@@ -28,6 +28,7 @@ pub struct Reduced {
 }
 
 // Whether an exponent lies in the rectangle of 01.
+#[tactic(auto, unfolding(crate::specs::Reduction::in_rectangle))]
 fn is_near(exponent: Point) -> bool
     ensures { result ≡ in_rectangle 48 (gauss exponent) }
 {
@@ -45,11 +46,7 @@ pub fn is_in_reach(exponent: Point) -> bool
 {
     let least: i64 = -2251799813685248;
     let most: i64 = 2251799813685248;
-    if is_near(exponent) {
-        true
-    } else {
-        exponent.is_in_box(least, most, least, most)
-    }
+    is_near(exponent) || exponent.is_in_box(least, most, least, most)
 }
 
 // How many m are nearest to x, and 16 more, so that only what is not negative is divided.
@@ -81,13 +78,9 @@ fn times(s: Point, d: Digit) -> Point
     requires digit { IsDigit (gaussᵈ d) }
     ensures { result ≡ point (gauss s *ᵍ gaussᵈ d) }
 {
-    let x = s.x;
-    let y = s.y;
-    let dx = d.dx;
-    let dy = d.dy;
     Point {
-        x: dx * x - dy * y,
-        y: dx * y + dy * x,
+        x: d.dx * s.x - d.dy * s.y,
+        y: d.dx * s.y + d.dy * s.x,
     }
 }
 

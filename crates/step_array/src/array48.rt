@@ -5,7 +5,7 @@ ghost use Rattle.table_numbers.specs.Rows.{step_row, part};
 use step_table::rows48 as t;
 use table_numbers::Entry;
 
-const STEPS: [[[Entry; 3]; 3]; 40] = [
+static STEPS: [[[Entry; 3]; 3]; 40] = [
     [t::STEP_1_MINUS, t::STEP_1_ZERO, t::STEP_1_PLUS],
     [t::STEP_2_MINUS, t::STEP_2_ZERO, t::STEP_2_PLUS],
     [t::STEP_3_MINUS, t::STEP_3_ZERO, t::STEP_3_PLUS],

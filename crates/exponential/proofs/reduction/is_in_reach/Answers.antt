@@ -7,9 +7,7 @@ use Rattle.exponential.proofs.Given.{rectangle_reaches}
 use Rattle.exponential.proofs.reduction.is_in_reach.Goals as goal
 
 pub returns-then-is_near : goal.returns-then-is_near
-returns-then-is_near c =
-    let n = c.before in
-    sym (rectangle_reaches 48 (gauss n.before.args.exponent) (omega arith) (sym n.is_near.ensures ∙ c.if-is_near.true))
+returns-then-is_near c = c.if-is_near.true ∙ sym (rectangle_reaches 48 (gauss c.args.exponent) (omega arith) (sym c.if-is_near.ensures))
 
 pub returns-else-is_near : goal.returns-else-is_near
 unfolding in_reach

@@ -5,34 +5,23 @@ use Rattle.algebra.specs.Gauss.{◌*ᵍ◌}
 use Rattle.algebra.proofs.Gauss.{g_mul_comm}
 use Rattle.word.proofs.Fits.{back}
 use Rattle.point.specs.Point.{gauss, gaussᵈ, point}
-use Rattle.point.proofs.Fits.{StepFits, step_fits}
+use Rattle.point.proofs.Fits.{step_fits}
 use Rattle.exponential.proofs.reduction.times.Goals as goal
-use Rattle.exponential.proofs.reduction.times.Goals.{After-struct_told-4-1}
-
-abbrev facts : (c : After-struct_told-4-1) → let s = c.before.before.before.before in StepFits 0 (gaussᵈ s.args.d) (gauss s.args.s)
-facts c = let s = c.before.before.before.before in step_fits 0 s.requires.digit s.requires.parts
 
 pub returns : goal.returns
 unfolding ◌*ᵍ◌
 returns c =
-    let a = c.before.before.before.before.args in
-    let f = facts c in
-    simp (back, f.x, f.y, f.dx, f.dy, f.dx_x, f.dy_y, f.dx_y, f.dy_x, f.re, f.im) (ap point (g_mul_comm (gaussᵈ a.d) (gauss a.s)))
-
-pub overflow_mul-result : goal.overflow_mul-result
-overflow_mul-result c = let f = facts c in search rules
-
-pub overflow_mul-result-2 : goal.overflow_mul-result-2
-overflow_mul-result-2 c = let f = facts c in search rules
+    let f = step_fits 0 c.requires.digit c.requires.parts in
+    simp (back, f.x, f.y, f.dx, f.dy, f.dx_x, f.dy_y, f.dx_y, f.dy_x, f.re, f.im) (ap point (g_mul_comm (gaussᵈ c.args.d) (gauss c.args.s)))
 
 pub overflow_sub-result : goal.overflow_sub-result
-overflow_sub-result c = let f = facts c in search rules
+overflow_sub-result c = let f = step_fits 0 c.requires.digit c.requires.parts in search rules
 
 pub overflow_mul-result-3 : goal.overflow_mul-result-3
-overflow_mul-result-3 c = let f = facts c in search rules
+overflow_mul-result-3 c = let f = step_fits 0 c.requires.digit c.requires.parts in search rules
 
 pub overflow_mul-result-4 : goal.overflow_mul-result-4
-overflow_mul-result-4 c = let f = facts c in search rules
+overflow_mul-result-4 c = let f = step_fits 0 c.requires.digit c.requires.parts in search rules
 
 pub overflow_add-result : goal.overflow_add-result
-overflow_add-result c = let f = facts c in search rules
+overflow_add-result c = let f = step_fits 0 c.requires.digit c.requires.parts in search rules
