@@ -10,7 +10,7 @@ use lib.Seq.{slice, take-take}
 use Rattle.scan.specs.Decimal.{read_number}
 use Rattle.scan.specs.Find.{before, find_byte}
 use Rattle.scan.proofs.Find.{ended, before_take}
-use Rattle.scan.proofs.Read.{no_number}
+use Rattle.scan.proofs.Read.{no_value}
 use Rattle.text.proofs.Serial.{first_number}
 use Rattle.stream.specs.Machine.{lines}
 use Rattle.merge.specs.declared.Front.{Front}
@@ -40,7 +40,7 @@ pub record Sure (last : ℤ) (s : List ℕ) (r : Option ℤ) : Type 0 where
 
 module _ {last : ℤ} {s : List ℕ} {r : Option ℤ} (h : Sure last s r) where
   pub not_none : {A : Type 0} → r ≡ None → A
-  not_none e = no_number h.serial (sym e ∙ h.«read»)
+  not_none e = no_value (sym e ∙ h.«read»)
 
   pub risen_as : {z : ℤ} → r ≡ Some z → front last (lines s) ≡ Risen z
   risen_as e = h.is ∙ ap Risen (number_is (sym h.«read» ∙ e))
