@@ -24,17 +24,6 @@ module _ (m : ℕ) (s : List ℕ) (i : ℕ) where
   pub passed : i < length s → (get_or s i 0 ≡ m → ⊥) → i < find_byte m s i
   passed h n = omega (arith, found_later h n)
 
--- ---- a search that has come to i: there it is, or it goes on
-module _ (m : ℕ) (s : List ℕ) (from i : ℕ) (e : find_byte m s i ≡ find_byte m s from) where
-  pub search_ends : i < length s → get_or s i 0 ≡ m → i ≡ find_byte m s from
-  search_ends h k = sym (found_here m s i h k) ∙ e
-
-  pub search_over : length s ≤ i → i ≡ find_byte m s from
-  search_over h = sym (found_none m s i h) ∙ e
-
-  pub search_more : (j : ℕ) → j ≡ i + 1 → i < length s → (get_or s i 0 ≡ m → ⊥) → find_byte m s j ≡ find_byte m s from
-  search_more j k h n = ap (find_byte m s) k ∙ (sym (found_later m s i h n) ∙ e)
-
 -- ---- the library's search in the rest of a list
 before_most : (m : ℕ) (l : List ℕ) → before m l ≤ length l
 unfolding before

@@ -76,9 +76,6 @@ module _ (b : List ℕ) (at : ℕ) (h : at ≤ length b) where
   rest : mid_of at (length b - at) b ≡ drop at b
   rest = take_all (length b - at) (drop at b) (simp length-drop (le_refl (length b - at)))
 
-  pub rest_length : length (mid_of at (length b - at) b) ≡ length b - at
-  rest_length = rw rest (length-drop at b)
-
   module _ {xs part : List ℕ} {n : ℕ} (f : Front xs (mid_of at (length b - at) b) part n)
       (same : length part ≡ length (mid_of at (length b - at) b)) where
     pub rest_within : at + n ≤ length b
