@@ -1,23 +1,14 @@
--- `step_table::row_at` meets its contract: six numbers are three entries.
-use Prim.Native.Nat.{ℕ}
-use lib.IntN.{ℤ, pos}
-use lib.ListN.{get_or}
-use Rattle.word.proofs.Fits.{back, sfits_mag}
+-- `step_table::row_at` meets its contract: the line is the specification's.
+use Rattle.std.proofs.Common.{arith, rules}
+use Rattle.table_numbers.specs.Numbers48.{step_logs}
+use Rattle.table_numbers.specs.Table.{step_table}
+use Rattle.table_numbers.specs.Rows.{step_row}
+use Rattle.table_numbers.proofs.RowLaws.{rows, rows_at, rows_over}
 use Rattle.step_table.proofs.row_at.Goals as goal
 
-pub returns : goal.returns
-returns c =
-    let five = c.before in
-    let four = five.before in
-    let three = four.before in
-    let two = three.before in
-    let one = two.before in
-    let at : ℕ → ℤ = λ i. get_or one.before.numbers_at-v.result i (pos 0) in
-    rw (
-      back (sfits_mag (at 0) one.result-1.given),
-      back (sfits_mag (at 1) two.result-2-1.given),
-      back (sfits_mag (at 2) three.result-3-1.given),
-      back (sfits_mag (at 3) four.result-4-1.given),
-      back (sfits_mag (at 4) five.result-5-1.given),
-      back (sfits_mag (at 5) c.result-6-1.given),
-    ) one.before.numbers_at-v.ensures
+pub returns-then-index-lt123 : goal.returns-then-index-lt123
+unfolding step_row step_table step_logs rows
+returns-then-index-lt123 c = rows_at 0 123 c.args.index c.args.index (omega arith) (search rules)
+
+pub returns-else-index-lt123 : goal.returns-else-index-lt123
+returns-else-index-lt123 c = rows_over c.args.index (search rules)
