@@ -129,77 +129,57 @@ pub const NO_STEP: [Entry; 3] = [
 
 
 def line_source():
-    """The rows in one line, and its reader."""
-    steps = range(1, WIDTH - 7)
-    rows = "".join(f"    t::{step_name(n, place)},\n" for n in steps for place in range(3))
-    return f"""// The rows of the step table at the width {WIDTH} in one line, three to an n, and its reader. {MADE}
-ghost use Rattle.std.specs.Prelude.{{◌≡◌, ◌<◌, ◌+◌}};
-ghost use Rattle.table_numbers.specs.Rows.{{row_at}};
-
+    """The rows in one line, from the number 0 on."""
+    names = ["NO_STEP"] * 3 + [step_name(n, place) for n in range(1, WIDTH - 7) for place in range(3)]
+    rows = "".join(f"    t::{name},\n" for name in names)
+    return f"""// The rows of the step table at the width {WIDTH} in one line, three to an n. {MADE}
 use crate::rows{WIDTH} as t;
 use table_numbers::Entry;
 
-static ROWS: [[Entry; 3]; {3 * len(steps)}] = [
+pub static ROWS: [[Entry; 3]; {len(names)}] = [
 {rows}];
-
-// It stands in the steps' loop, so that the row's numbers come in registers.
-#[inline(always)]
-pub fn row(i: usize) -> [Entry; 3]
-    requires {{ i < {3 * len(steps)} }}
-    ensures {{ result ≡ row_at (i + 3) }}
-{{
-    ROWS[i]
-}}
 """
 
 
 def reciprocal_logs_source():
     cells = [entry for column in reciprocal_logs(WIDTH) for entry in column]
-    arms = "".join(f"        {i} => {indented(number_fields(e), 2)},\n" for i, e in enumerate(cells))
+    entries = "".join(f"    {indented(number_fields(e), 1)},\n" for e in cells)
     return f"""// The logarithms of the reciprocals at the width {WIDTH}, by their cells. {MADE}
 ghost use Rattle.std.specs.Prelude.{{◌≡◌}};
 ghost use Rattle.table_numbers.specs.Rows.{{reciprocal_log_at}};
 
 use table_numbers::Entry;
 
+static LOGS: [Entry; {len(cells)}] = [
+{entries}];
+
 pub fn reciprocal_log_at(cell: usize) -> Entry
     ensures {{ result ≡ reciprocal_log_at cell }}
 {{
-    match cell {{
-{arms}        _ => Entry {{ re: 0, im: 0 }},
+    if cell < LOGS.len() {{
+        LOGS[cell]
+    }} else {{
+        Entry {{ re: 0, im: 0 }}
     }}
 }}
 """
 
 
-# ---- the proofs of the look-ups: in each arm the number is known, and the specification computes there to the arm's entries
-def arms_proof(function, uses, unfolds, definition, last, keys, argument, rows=None):
-    module = f"Rattle.{function[0]}.proofs." + ".".join(function[1:])
-    answers = [(f"returns-in-{key}", f"ap {definition} (sym c.in-{key}.is)") for key in keys]
-    answers.append(("returns-in_default", f"{last} c.args.{argument} c.in_default.in_default-own.rest"))
-    said = "\n".join(f"pub {name} : goal.{name}\nunfolding {unfolds}\n{name} c = {answer}\n" for name, answer in answers)
-    return f"""-- `{'::'.join(function)}` meets its contract: in each arm the number is known, and the
--- specification computes there to what the arm answers. {MADE}
-use mathlib.Core.Path.{{sym, ap}}
-{uses}use Rattle.table_numbers.specs.Rows.{{{rows or definition}}}
-use Rattle.table_numbers.proofs.RowLaws.{{{last}}}
+# ---- the proofs of the look-ups: the specification computes to what is read
+def reciprocal_logs_proof():
+    module = f"Rattle.reciprocal_table.proofs.reciprocal_logs{WIDTH}.reciprocal_log_at"
+    return f"""-- `reciprocal_table::reciprocal_logs{WIDTH}::reciprocal_log_at` meets its contract: the line is the specification's. {MADE}
+use Rattle.std.proofs.Common.{{arith, rules}}
+use Rattle.table_numbers.specs.Numbers{WIDTH}.{{reciprocal_logs}}
+use Rattle.table_numbers.proofs.RowLaws.{{cells, cells_at, cells_over}}
 use {module}.Goals as goal
 
-{said}"""
+pub returns-then-cell-lt256 : goal.returns-then-cell-lt256
+unfolding reciprocal_logs cells
+returns-then-cell-lt256 c = cells_at 0 256 c.args.cell c.args.cell (omega arith) (search rules)
 
-
-def line_proof():
-    module = f"Rattle.step_table.proofs.line{WIDTH}.row"
-    return f"""-- `step_table::line{WIDTH}::row` meets its contract: the line is the specification's. {MADE}
-use Rattle.table_numbers.specs.Numbers{WIDTH}.{{step_logs}}
-use Rattle.table_numbers.specs.Table.{{step_table}}
-use Rattle.table_numbers.specs.Rows.{{step_row}}
-use Rattle.step_table.proofs.Line.{{line, line_at}}
-use {module}.Goals as goal
-
-pub returns : goal.returns
-unfolding step_row line step_table step_logs
-returns c = line_at {WIDTH - 8} c.args.i c.requires
+pub returns-else-cell-lt256 : goal.returns-else-cell-lt256
+returns-else-cell-lt256 c = cells_over c.args.cell (search rules)
 """
 
 
@@ -218,18 +198,11 @@ returns c = matrices_at 1 {WIDTH - 8} c.args.i c.args.place c.requires.0 c.requi
 """
 
 
-def reciprocal_logs_proof():
-    uses = f"use Rattle.table_numbers.specs.Numbers{WIDTH}.{{reciprocal_logs}}\n"
-    function = ("reciprocal_table", f"reciprocal_logs{WIDTH}", "reciprocal_log_at")
-    return arms_proof(function, uses, "reciprocal_logs", "reciprocal_log_at", "other_log", range(256), "cell")
-
-
 FILES = {
     f"table_numbers/specs/Numbers{WIDTH}.antt": numbers_spec,
     f"step_table/src/rows{WIDTH}.rt": steps_source,
     f"step_table/src/line{WIDTH}.rt": line_source,
     f"reciprocal_table/src/reciprocal_logs{WIDTH}.rt": reciprocal_logs_source,
-    f"step_table/proofs/line{WIDTH}/row/Answers.antt": line_proof,
     f"reciprocal_table/proofs/reciprocal_logs{WIDTH}/reciprocal_log_at/Answers.antt": reciprocal_logs_proof,
     f"step_array/src/array{WIDTH}.rt": array_source,
     f"step_array/proofs/array{WIDTH}/row/Answers.antt": array_proof,

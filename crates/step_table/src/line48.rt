@@ -1,11 +1,11 @@
-// The rows of the step table at the width 48 in one line, three to an n, and its reader. Made by tests/tables/generate.py.
-ghost use Rattle.std.specs.Prelude.{◌≡◌, ◌<◌, ◌+◌};
-ghost use Rattle.table_numbers.specs.Rows.{row_at};
-
+// The rows of the step table at the width 48 in one line, three to an n. Made by tests/tables/generate.py.
 use crate::rows48 as t;
 use table_numbers::Entry;
 
-static ROWS: [[Entry; 3]; 120] = [
+pub static ROWS: [[Entry; 3]; 123] = [
+    t::NO_STEP,
+    t::NO_STEP,
+    t::NO_STEP,
     t::STEP_1_MINUS,
     t::STEP_1_ZERO,
     t::STEP_1_PLUS,
@@ -127,12 +127,3 @@ static ROWS: [[Entry; 3]; 120] = [
     t::STEP_40_ZERO,
     t::STEP_40_PLUS,
 ];
-
-// It stands in the steps' loop, so that the row's numbers come in registers.
-#[inline(always)]
-pub fn row(i: usize) -> [Entry; 3]
-    requires { i < 120 }
-    ensures { result ≡ row_at (i + 3) }
-{
-    ROWS[i]
-}

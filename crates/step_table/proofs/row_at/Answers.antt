@@ -1,11 +1,9 @@
--- `step_table::row_at` meets its contract.
-use mathlib.Core.Path.{◌≡◌, ◌∙◌, ap}
-use Prim.Native.Nat.{◌+◌, ◌-◌}
-use mathlib.Core.Logic.{inl, inr}
-use native.Mathlib.Omega.{arith}
-use Rattle.table_numbers.specs.Rows.{row_at}
-use Rattle.table_numbers.proofs.RowLaws.{no_step}
-use Rattle.step_table.proofs.Line.{no_row_at}
+-- `step_table::row_at` meets its contract: the line is the specification's.
+use Rattle.std.proofs.Common.{arith, rules}
+use Rattle.table_numbers.specs.Numbers48.{step_logs}
+use Rattle.table_numbers.specs.Table.{step_table}
+use Rattle.table_numbers.specs.Rows.{step_row}
+use Rattle.table_numbers.proofs.RowLaws.{rows, rows_at, rows_over}
 use Rattle.step_table.proofs.row_at.Goals as goal
 use Rattle.step_table.proofs.row_at.Goals.{then-index-lt3-via-then-index-lt3, then-index-lt3-via-else-index-lt3+then-index-gt122}
 
@@ -15,7 +13,9 @@ returns-then-index-lt3 c = no_step _ _ (no_row_at c.args.index (elim c.then-inde
   | then-index-lt3-via-else-index-lt3+then-index-gt122 w ↦ inr (omega arith)
 ]))
 
-pub returns : goal.returns
-returns c =
-    let same : c.args.index - 3 + 3 ≡ c.args.index = omega arith in
-    c.row.ensures ∙ ap row_at same
+pub returns-then-index-lt123 : goal.returns-then-index-lt123
+unfolding step_row step_table step_logs rows
+returns-then-index-lt123 c = rows_at 0 123 c.args.index c.args.index (omega arith) (search rules)
+
+pub returns-else-index-lt123 : goal.returns-else-index-lt123
+returns-else-index-lt123 c = rows_over c.args.index (search rules)
