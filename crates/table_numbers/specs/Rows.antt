@@ -1,4 +1,4 @@
--- The tables as code has them: a struct to an entry, three of them to a row, the rows and the cells each in one line for a `match`; and
+-- The tables as code has them: a struct to an entry, three of them to a row, the rows and the cells each in one line; and
 -- what a look-up promises of what it hands out.
 use Rattle.std.specs.Prelude.{cond, List, [], ◌∷◌, ℕ, zero, suc, ◌/◌, ◌%◌, ◌≤◌, ℤ, pos, negsuc, ◌≡◌}
 use Rattle.algebra.specs.Gauss.{𝔾, gi}

@@ -1,2 +1,0 @@
--- The rows in one line.
-pub mod Line
