@@ -5,13 +5,6 @@ use Rattle.table_numbers.specs.Table.{step_table}
 use Rattle.table_numbers.specs.Rows.{step_row}
 use Rattle.table_numbers.proofs.RowLaws.{rows, rows_at, rows_over}
 use Rattle.step_table.proofs.row_at.Goals as goal
-use Rattle.step_table.proofs.row_at.Goals.{then-index-lt3-via-then-index-lt3, then-index-lt3-via-else-index-lt3+then-index-gt122}
-
-pub returns-then-index-lt3 : goal.returns-then-index-lt3
-returns-then-index-lt3 c = no_step _ _ (no_row_at c.args.index (elim c.then-index-lt3.branch [
-  | then-index-lt3-via-then-index-lt3 w ↦ inl (omega arith)
-  | then-index-lt3-via-else-index-lt3+then-index-gt122 w ↦ inr (omega arith)
-]))
 
 pub returns-then-index-lt123 : goal.returns-then-index-lt123
 unfolding step_row step_table step_logs rows
