@@ -18,7 +18,7 @@ ghost use Rattle.merge.specs.Call.{refusal_for, bytes_for};
 ghost use Rattle.merge_stop.specs.Stop.{stop};
 ghost use Rattle.controller.specs.Record.{handed, written, part_of, count_or_refusal};
 
-use answer::Answer;
+use answer::{Figures, Refusal};
 use book::{Book, Opening, Settled};
 use doubles::{Doubles, DoublesAnswer, UnitsAnswer};
 use merge_stop::Stop;
@@ -28,14 +28,14 @@ use point::Point;
 const RECORD_ROOM: usize = 64;
 
 // An answer's record into the lent buffer, and its first number back.
-fn hand_over(answer: Answer, out: &mut [u8]) -> i64
+fn hand_over(answer: Result<Figures, Refusal>, out: &mut [u8]) -> i64
     ensures handed { result ≡ handed out.old (record_of answer) }
     ensures bytes { out.new ≡ written out.old (record_of answer) }
 {
     if out.len() < RECORD_ROOM {
         return 6;
     }
-    let numbers = answer.record();
+    let numbers = answer::record(answer);
     buffer::put_words(&numbers, out, 0);
     numbers[0]
 }
@@ -95,10 +95,10 @@ fn book_answer(s: Settled) -> BookAnswer
     ensures answer { result.«record» ≡ reply_record s.reply }
     ensures book { result.book ≡ s.book }
 {
-    let reply = s.reply;
-    let book = s.book;
-    let record = reply.record();
-    BookAnswer { record, book }
+    BookAnswer {
+        record: book::record(s.reply),
+        book: s.book,
+    }
 }
 
 #[unsafe(no_mangle)]
@@ -139,7 +139,7 @@ pub extern "C" fn bkm_log_doubles(n: i64, x: i64, y: i64) -> DoublesAnswer
     ensures answer { result ≡ doubles_answer 48 (log_answer n x y) }
     ensures kept { AnswerKept 48 (log_answer n x y) result }
 {
-    doubles::log_doubles(n, Point { x, y })
+    DoublesAnswer::from(doubles::log_doubles(n, Point { x, y }))
 }
 
 // Two such doubles read back as whole numbers of units.
@@ -148,7 +148,7 @@ pub extern "C" fn bkm_read_doubles(d: Doubles) -> UnitsAnswer
     ensures answer { result ≡ units_answer 48 d }
     ensures back { WrittenBack 48 d result }
 {
-    doubles::read_doubles(d)
+    UnitsAnswer::from(doubles::read_doubles(d))
 }
 
 // The answer to a line of a sheet, which comes without its newline: how many bytes it has, its newline counted, or 0 where the buffer is too
@@ -168,12 +168,10 @@ pub extern "C" fn bkm_merge<'a>(a: &'a [u8], b: &'a [u8], out: &mut [u8]) -> i64
     ensures handed { result ≡ count_or_refusal (refusal_for a.now b.now out.old) (bytes_for a.now b.now out.old) }
     ensures bytes { out.new ≡ bytes_for a.now b.now out.old ++ drop (length (bytes_for a.now b.now out.old)) out.old }
 {
-    let m = merge::merge(a, b, out);
-    let refusal = m.refusal;
-    if refusal == 0 {
-        return m.written as i64;
+    match merge::merge(a, b, out) {
+        Ok(written) => written as i64,
+        Err(refusal) => -i64::from(refusal),
     }
-    -refusal
 }
 
 // Which line of which sheet stops the merge of two sheets, counted from 1; 0 for a sheet of which no line is refused.

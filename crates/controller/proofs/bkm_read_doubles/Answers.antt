@@ -1,5 +1,8 @@
--- `controller::bkm_read_doubles` meets its contract, which is that of the call.
+-- `controller::bkm_read_doubles` meets its contract: what C is handed of the reading.
+use mathlib.Core.Path.{ap, ◌∙◌}
+use Rattle.doubles.specs.Record.{units_record}
+use Rattle.doubles.proofs.Kept.{units_are}
 use Rattle.controller.proofs.bkm_read_doubles.Goals as goal
 
-pub returns : goal.returns
-returns c = c.read_doubles.ensures
+pub returns-clause-answer : goal.returns-clause-answer
+returns-clause-answer c = c.from.ensures ∙ (ap units_record c.read_doubles.ensures.answer ∙ units_are 48 c.args.d)
