@@ -128,36 +128,29 @@ pub const NO_STEP: [Entry; 3] = [
     return "".join(out)
 
 
-def flat_source():
-    """The rows in six numbers each, and the look-up among them: a `match` over nested constants takes six times as long to check."""
-    out = [f"""// The rows of the step table at the width {WIDTH} in six numbers each, and the look-up among them. {MADE}
-ghost use Rattle.std.specs.Prelude.{{◌≡◌}};
+def line_source():
+    """The rows in one line, and its reader."""
+    steps = range(1, WIDTH - 7)
+    rows = "".join(f"    t::{step_name(n, place)},\n" for n in steps for place in range(3))
+    return f"""// The rows of the step table at the width {WIDTH} in one line, three to an n, and its reader. {MADE}
+ghost use Rattle.std.specs.Prelude.{{◌≡◌, ◌<◌, ◌+◌}};
 ghost use Rattle.table_numbers.specs.Rows.{{row_at}};
-ghost use Rattle.step_table.specs.Code.{{entries}};
 
 use crate::rows{WIDTH} as t;
+use table_numbers::Entry;
 
-const NO_STEP: [i64; 6] = [0, 0, 0, 0, 0, 0];
-"""]
-    for n in range(1, WIDTH - 7):
-        for place in range(3):
-            name = step_name(n, place)
-            numbers = "".join(f"    t::{name}[{dy}].{part},\n" for dy in range(3) for part in ("re", "im"))
-            out.append(f"\nconst {name}: [i64; 6] = [\n{numbers}];\n")
-    arms = "".join(f"        {3 * n + place} => {step_name(n, place)},\n" for n in range(1, WIDTH - 7) for place in range(3))
-    out.append(f"""
-// Three rows to an n. A `match` over named rows becomes a read-only table, where a constant array would be written out at each call. It stands
-// in the steps' loop, so that its numbers come in registers.
+static ROWS: [[Entry; 3]; {3 * len(steps)}] = [
+{rows}];
+
+// It stands in the steps' loop, so that the row's numbers come in registers.
 #[inline(always)]
-pub fn numbers_at(index: usize) -> [i64; 6]
-    ensures {{ entries result ≡ row_at index }}
+pub fn row(i: usize) -> [Entry; 3]
+    requires {{ i < {3 * len(steps)} }}
+    ensures {{ result ≡ row_at (i + 3) }}
 {{
-    match index {{
-{arms}        _ => NO_STEP,
-    }}
+    ROWS[i]
 }}
-""")
-    return "".join(out)
+"""
 
 
 def reciprocal_logs_source():
@@ -195,12 +188,19 @@ use {module}.Goals as goal
 {said}"""
 
 
-def steps_proof():
-    uses = f"""use Rattle.table_numbers.specs.Numbers{WIDTH}.{{step_logs}}
+def line_proof():
+    module = f"Rattle.step_table.proofs.line{WIDTH}.row"
+    return f"""-- `step_table::line{WIDTH}::row` meets its contract: the line is the specification's. {MADE}
+use Rattle.table_numbers.specs.Numbers{WIDTH}.{{step_logs}}
 use Rattle.table_numbers.specs.Table.{{step_table}}
+use Rattle.table_numbers.specs.Rows.{{step_row}}
+use Rattle.step_table.proofs.Line.{{line, line_at}}
+use {module}.Goals as goal
+
+pub returns : goal.returns
+unfolding step_row line step_table step_logs
+returns c = line_at {WIDTH - 8} c.args.i c.requires
 """
-    function = ("step_table", f"flat{WIDTH}", "numbers_at")
-    return arms_proof(function, uses, "step_row step_table step_logs", "row_at", "other_row", range(3, 3 * (WIDTH - 7)), "index", "step_row, row_at")
 
 
 def array_proof():
@@ -227,9 +227,9 @@ def reciprocal_logs_proof():
 FILES = {
     f"table_numbers/specs/Numbers{WIDTH}.antt": numbers_spec,
     f"step_table/src/rows{WIDTH}.rt": steps_source,
-    f"step_table/src/flat{WIDTH}.rt": flat_source,
+    f"step_table/src/line{WIDTH}.rt": line_source,
     f"reciprocal_table/src/reciprocal_logs{WIDTH}.rt": reciprocal_logs_source,
-    f"step_table/proofs/flat{WIDTH}/numbers_at/Answers.antt": steps_proof,
+    f"step_table/proofs/line{WIDTH}/row/Answers.antt": line_proof,
     f"reciprocal_table/proofs/reciprocal_logs{WIDTH}/reciprocal_log_at/Answers.antt": reciprocal_logs_proof,
     f"step_array/src/array{WIDTH}.rt": array_source,
     f"step_array/proofs/array{WIDTH}/row/Answers.antt": array_proof,

@@ -1,5 +1,5 @@
-// The step table in code: its named rows, and the look-up that the engines use. The array that 01 names is made of the same rows
-// (step_array); a constant array is written to the stack at each call that mentions it, so the engines take their rows from the look-up.
+// The step table in code: its named rows, and the look-up among them that the engines use. The array that 01 names is made of the same rows
+// (step_array).
 #![tactic(auto)]
 
 ghost use Rattle.std.specs.Prelude.{◌≡◌};
@@ -7,7 +7,7 @@ ghost use Rattle.table_numbers.specs.Rows.{row_at};
 
 use table_numbers::Entry;
 
-mod flat48;
+mod line48;
 pub mod rows48;
 
 // The row with a number in the one line of rows, three to an n; noughts outside.
@@ -15,10 +15,8 @@ pub mod rows48;
 pub fn row_at(index: usize) -> [Entry; 3]
     ensures { result ≡ row_at index }
 {
-    let v = flat48::numbers_at(index);
-    [
-        Entry { re: v[0], im: v[1] },
-        Entry { re: v[2], im: v[3] },
-        Entry { re: v[4], im: v[5] },
-    ]
+    if index < 3 || 122 < index {
+        return rows48::NO_STEP;
+    }
+    line48::row(index - 3)
 }

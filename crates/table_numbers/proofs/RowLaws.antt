@@ -1,20 +1,19 @@
 -- Rows and cells in one line: what stands at each number, and outside.
 use mathlib.Core.Path.{◌≡◌, refl, sym, ◌∙◌, ap}
 use mathlib.Core.List.{List, [], ◌∷◌}
-use mathlib.Core.Logic.{◌⊎◌, inl, inr, ⊎_elim}
-use Prim.Native.Nat.{ℕ, zero, suc, ◌/◌, ◌%◌, ◌≤◌, ◌<◌}
+use mathlib.Core.Logic.{◌⊎◌, inl, inr}
+use Prim.Native.Nat.{ℕ, zero, suc, ◌%◌, ◌≤◌, ◌<◌}
 use native.Mathlib.Nat.{not-suc-le-zero, le_of_suc-le-suc}
 use native.Mathlib.Omega.{arith}
 use lib.IntN.{ℤ, pos, negsuc}
 use lib.ListN.{length, get_or, get_or-eq_default}
 use Rattle.algebra.specs.Gauss.{𝔾}
-use Rattle.algebra.proofs.Power.{le_or_lt}
 use Rattle.table_numbers.specs.declared.Entry.{Entry}
 use Rattle.table_numbers.specs.Listed.{nought, by_digit}
 use Rattle.table_numbers.specs.Cell.{cell_at}
 use Rattle.table_numbers.specs.Numbers48.{step_logs, reciprocal_logs}
 use Rattle.table_numbers.specs.Table.{step_table}
-use Rattle.table_numbers.specs.Rows.{entry, none, step_row, part, row_at, reciprocal_log_at}
+use Rattle.table_numbers.specs.Rows.{entry, none, step_row, reciprocal_log_at}
 use Rattle.table_numbers.proofs.Match.{Rests, past}
 
 pub row_entry : (n : ℕ) (dx dy : ℤ) → by_digit (step_row n dx) none dy ≡ entry (step_table n dx dy)
@@ -44,16 +43,6 @@ unfolding step_row step_table step_logs
 no_step zero dx h = ap row_of (sym (by_none dx))
 no_step (suc n) dx (inl h) = absurd (not-suc-le-zero (le_of_suc-le-suc h))
 no_step (suc n) dx (inr h) = ap row_of (sym (by_none dx) ∙ ap (λ m. by_digit m [] dx) (sym (get_or-eq_default ([] ∷ step_logs) [] h)))
-
--- for any other number of a match on 3 to 122
-pub other_row : (k : ℕ) → Rests 3 k 120 → no_row ≡ row_at k
-other_row k r = no_step (k / 3) (part (k % 3)) (⊎_elim (λ g. inr (after g)) (λ l. inl (before l)) (le_or_lt 3 k))
-  where
-    after : 3 ≤ k → 40 < k / 3
-    after g = omega (arith, past 3 k 120 g r)
-
-    before : k < 3 → k / 3 < 1
-    before l = omega arith
 
 -- for any other number of a match on 0 to 255
 no_cell : (l : List (List 𝔾)) (k : ℕ) → length l ≤ 8 → Rests 0 k 256 → none ≡ entry (cell_at l k)

@@ -1,23 +1,21 @@
--- `step_table::row_at` meets its contract: six numbers are three entries.
-use Prim.Native.Nat.{ℕ}
-use lib.IntN.{ℤ, pos}
-use lib.ListN.{get_or}
-use Rattle.word.proofs.Fits.{back, sfits_mag}
+-- `step_table::row_at` meets its contract.
+use mathlib.Core.Path.{◌≡◌, ◌∙◌, ap}
+use Prim.Native.Nat.{◌+◌, ◌-◌}
+use mathlib.Core.Logic.{inl, inr}
+use native.Mathlib.Omega.{arith}
+use Rattle.table_numbers.specs.Rows.{row_at}
+use Rattle.table_numbers.proofs.RowLaws.{no_step}
+use Rattle.step_table.proofs.Line.{no_row_at}
 use Rattle.step_table.proofs.row_at.Goals as goal
+use Rattle.step_table.proofs.row_at.Goals.{then-index-lt3-via-then-index-lt3, then-index-lt3-via-else-index-lt3+then-index-gt122}
+
+pub returns-then-index-lt3 : goal.returns-then-index-lt3
+returns-then-index-lt3 c = no_step _ _ (no_row_at c.args.index (elim c.then-index-lt3.branch [
+  | then-index-lt3-via-then-index-lt3 w ↦ inl (omega arith)
+  | then-index-lt3-via-else-index-lt3+then-index-gt122 w ↦ inr (omega arith)
+]))
 
 pub returns : goal.returns
 returns c =
-    let five = c.before in
-    let four = five.before in
-    let three = four.before in
-    let two = three.before in
-    let one = two.before in
-    let at : ℕ → ℤ = λ i. get_or one.before.numbers_at-v.result i (pos 0) in
-    rw (
-      back (sfits_mag (at 0) one.result-1.given),
-      back (sfits_mag (at 1) two.result-2-1.given),
-      back (sfits_mag (at 2) three.result-3-1.given),
-      back (sfits_mag (at 3) four.result-4-1.given),
-      back (sfits_mag (at 4) five.result-5-1.given),
-      back (sfits_mag (at 5) c.result-6-1.given),
-    ) one.before.numbers_at-v.ensures
+    let same : c.args.index - 3 + 3 ≡ c.args.index = omega arith in
+    c.row.ensures ∙ ap row_at same

@@ -1,0 +1,2 @@
+-- The rows in one line.
+pub mod Line
