@@ -7,7 +7,7 @@ ghost use Rattle.stream.specs.Machine.{new_line, go_on, cut, line_end, answers_f
 ghost use Rattle.stream.specs.Sheet.{initial, machine, heading, place_of, unless_short};
 ghost use Rattle.stream.specs.Code.{Wrote};
 
-use text::{ANSWER_ROOM, LineAnswer};
+use text::{ANSWER_ROOM, LineAnswer, LineError};
 
 // So many bytes of a line tell its answer: no line as long has the form.
 const KEPT: usize = 117;
@@ -61,7 +61,7 @@ fn next(state: State, line: &[u8], out: &mut [u8]) -> Answered
     let asked = text::read_line(line);
     if let Some(serial) = asked.serial() {
         if serial <= largest {
-            let not_above = text::refuse(serial, 7, out);
+            let not_above = text::refuse(serial, i64::from(LineError::Fallen), out);
             return counted(largest, not_above);
         }
         largest = serial;

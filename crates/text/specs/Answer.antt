@@ -6,9 +6,17 @@ use Rattle.exponential.specs.Answer.{exp_answer}
 use Rattle.logarithm.specs.Answer.{log_answer}
 use Rattle.text.specs.declared.Kind.{Kind}
 use Rattle.text.specs.declared.Line.{Line}
+use Rattle.text.specs.declared.LineError.{LineError}
 use Rattle.text.specs.Line.{EXP, LOG, REF, read_line}
 use Rattle.text.specs.declared.Kind.TheVariants as kind
 use Rattle.text.specs.declared.Line.TheVariants as line
+use Rattle.text.specs.declared.LineError.TheVariants as error
+
+-- ---- the refusals of a line that come before EXP's and LOG's: "first 6, buffer shorter than 128 bytes .. then 5"; 02, E3: 7
+abbrev pub line_refusal : LineError → ℤ
+line_refusal error.Malformed = pos 5
+line_refusal error.NoRoom = pos 6
+line_refusal error.Fallen = pos 7
 
 -- ---- an answer of either kind, out of its record: "kernel number, kind, N, the two parts, for LOG k and q, then the column"; 02, E5: "k
 -- stands before the column on every EXP line"; 02, E7: the remainder's "Two fields follow the parts"

@@ -6,7 +6,7 @@ ghost use Rattle.scan.specs.Fields.{fields_at};
 ghost use Rattle.scan.specs.Numbers.{numbers};
 ghost use Rattle.answer.specs.Record.{record_of};
 ghost use Rattle.text.specs.Line.{formed, exp_of, log_of, kind_line, read_line, serial_of};
-ghost use Rattle.text.specs.Answer.{refused_reply, answer_reply, reply_of, reply, refusal_for, count_for, out_for};
+ghost use Rattle.text.specs.Answer.{line_refusal, refused_reply, answer_reply, reply_of, reply, refusal_for, count_for, out_for};
 ghost use Rattle.text.specs.Code.{Replied};
 
 use answer::{Figures, Refusal};
@@ -47,6 +47,29 @@ impl Line {
         match self {
             Line::Exp { serial, .. } | Line::Log { serial, .. } => Some(serial),
             Line::Malformed => None,
+        }
+    }
+}
+
+// Why a line is turned away before EXP or LOG is asked, with its number.
+#[derive(Clone, Copy, Debug, PartialEq, Eq)]
+pub enum LineError {
+    // 5: it does not have the form
+    Malformed,
+    // 6: there is less room than ANSWER_ROOM
+    NoRoom,
+    // 7: its serial is not above those of the lines before it
+    Fallen,
+}
+
+impl From<LineError> for i64 {
+    ghost from_gives = { λ e n. n ≡ line_refusal e };
+
+    fn from(e: LineError) -> i64 {
+        match e {
+            LineError::Malformed => 5,
+            LineError::NoRoom => 6,
+            LineError::Fallen => 7,
         }
     }
 }
@@ -191,7 +214,7 @@ pub fn refuse(serial: i64, refusal: i64, out: &mut [u8]) -> LineAnswer
 {
     if out.len() < ANSWER_ROOM {
         return LineAnswer {
-            refusal: 6,
+            refusal: i64::from(LineError::NoRoom),
             written: 0,
         };
     }
@@ -206,12 +229,12 @@ pub fn reply(line: Line, out: &mut [u8]) -> LineAnswer
 {
     if out.len() < ANSWER_ROOM {
         return LineAnswer {
-            refusal: 6,
+            refusal: i64::from(LineError::NoRoom),
             written: 0,
         };
     }
     match line {
-        Line::Malformed => refuse(0, 5, out),
+        Line::Malformed => refuse(0, i64::from(LineError::Malformed), out),
         Line::Exp {
             serial,
             n,

@@ -18,7 +18,7 @@ returns-then-out-lt-ANSWER_ROOM c =
 
 pub returns-in-Malformed : goal.returns-in-Malformed
 unfolding reply_of
-returns-in-Malformed c = rw c.in-Malformed.is c.refuse.ensures
+returns-in-Malformed c = rw (c.in-Malformed.is, sym c.from.ensures) c.refuse.ensures
 
 pub returns-in-Exp : goal.returns-in-Exp
 unfolding reply_of
