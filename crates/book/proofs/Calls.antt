@@ -73,10 +73,6 @@ payable o n skipped fits h e {a} is = go a is
         }
 
 -- ---- who calls
-pub no_caller : (n : ℤ) → (n ≡ pos 1 → ⊥) → (n ≡ pos 2 → ⊥) → None ≡ caller_of n
-unfolding caller_of
-no_caller (negsuc n) h k = refl
-no_caller (pos n) h k = rw (ne_eqb n 1 (λ e. h (ap pos e)), ne_eqb n 2 (λ e. k (ap pos e)))
 
 -- ---- what is paid and the outcome by their cases, as the code has them
 module _ (who : Institute) (n : ℤ) (f : Figures) (b : Book) where
