@@ -1,8 +1,7 @@
 -- Where a byte stands first: a mark ends a field, a newline a line.
-use Rattle.std.proofs.Common.{take_all, ◌≡◌, ◌==◌, cond, ltb, Option, Some, None, ltb-false, ℕ, zero, suc, ◌+◌, ◌-◌, ◌<◌, ◌≤◌, min, eqb, List, [], ◌∷◌, ◌++◌, length, get_or, take, drop, sym, refl, ap, ◌∙◌, add-one, arith, length-drop, take-append-drop, drop_of_length-le, length-take, length-take-le, get_or-drop, drop-cons, eq-eqb, ne_eqb, eqb-true}
+use Rattle.std.proofs.Common.{take_all, ◌≡◌, Some, None, ℕ, zero, suc, ◌+◌, ◌-◌, ◌<◌, ◌≤◌, min, eqb, List, [], ◌∷◌, ◌++◌, length, get_or, take, drop, sym, refl, ap, ◌∙◌, add-one, arith, length-drop, take-append-drop, drop_of_length-le, length-take, length-take-le, get_or-drop, drop-cons, eq-eqb, ne_eqb, eqb-true}
 use native.Mathlib.Nat.{zero-min, min-zero, suc-min-suc}
-use Rattle.std.specs.List.{position_or_len}
-use Rattle.scan.specs.Code.{place}
+use Rattle.memchr.specs.Find.{IsFirstByte, is_byte}
 use lib.Seq.{slice, take-nil, drop-append-le}
 use borrow.Author.Tests.{eqb-false}
 use Rattle.algebra.proofs.Test.{either}
@@ -25,49 +24,40 @@ module _ (m : ℕ) (s : List ℕ) (i : ℕ) where
   pub passed : i < length s → (get_or s i 0 ≡ m → ⊥) → i < find_byte m s i
   passed h n = omega (arith, found_later h n)
 
--- ---- a search that has come to i: there it is, or it goes on
-module _ (m : ℕ) (s : List ℕ) (from i : ℕ) (e : find_byte m s i ≡ find_byte m s from) where
-  pub search_ends : i < length s → get_or s i 0 ≡ m → i ≡ find_byte m s from
-  search_ends h k = sym (found_here m s i h k) ∙ e
-
-  pub search_over : length s ≤ i → i ≡ find_byte m s from
-  search_over h = sym (found_none m s i h) ∙ e
-
-  pub search_more : (j : ℕ) → j ≡ i + 1 → i < length s → (get_or s i 0 ≡ m → ⊥) → find_byte m s j ≡ find_byte m s from
-  search_more j k h n = ap (find_byte m s) k ∙ (sym (found_later m s i h n) ∙ e)
-
--- ---- the library's place in the rest of a list
+-- ---- the library's search in the rest of a list
 before_most : (m : ℕ) (l : List ℕ) → before m l ≤ length l
 unfolding before
 before_most m [] = omega arith
 before_most m (c ∷ cs) = either (eqb c m) (λ e. rw e (omega arith)) (λ e. rw e (omega (arith, before_most m cs)))
 
-before_is : (m : ℕ) (l : List ℕ) → before m l ≡ position_or_len (λ b. b == m) l
-unfolding before
-before_is m [] = refl
-before_is m (c ∷ cs) = either (eqb c m) (λ e. rw e) (λ e. rw e (omega (arith, before_is m cs)))
+module _ (m : ℕ) where
+  -- no byte before i is m, and the one at i is, or there is none
+  before_first : (l : List ℕ) (i : ℕ) → i ≤ length l → ((k : ℕ) → k < i → get_or l k 0 ≡ m → ⊥) → (i < length l → get_or l i 0 ≡ m) →
+      before m l ≡ i
+  unfolding before
+  before_first [] i h n e = omega arith
+  before_first (c ∷ cs) zero h n e = rw (eq-eqb c m (e (omega arith)))
+  before_first (c ∷ cs) (suc i) h n e =
+      let more = before_first cs i (omega arith) (λ k g. n (suc k) (omega arith)) (λ g. e (omega arith)) in
+      rw (ne_eqb c m (n 0 (omega arith))) (ap suc more)
 
-module _ (m : ℕ) (s : List ℕ) (from : ℕ) where
-  abbrev rest : ℕ
-  rest = before m (drop from s)
+  module _ (s : List ℕ) (from : ℕ) (h : from ≤ length s) where
+    all : take (length s - from) (drop from s) ≡ drop from s
+    all = take_all (length s - from) (drop from s) (omega (arith, length-drop from s))
 
-  place_is : place m (take (length s - from) (drop from s)) ≡ cond (ltb rest (length (drop from s))) (Some rest) None
-  unfolding place
-  place_is = rw (take_all (length s - from) (drop from s) (omega (arith, length-drop from s)), before_is m (drop from s))
+    pub place_found : {i : ℕ} → IsFirstByte (is_byte m) (take (length s - from) (drop from s)) (Some i) → from + i ≡ find_byte m s from
+    place_found {i} f =
+        let g = rw all at f in
+        let here : before m (drop from s) ≡ i = before_first (drop from s) i (omega (arith, g.0.high))
+        (λ k l e. g.0.before k (omega arith) l (eq-eqb _ _ e)) (λ l. eqb-true _ _ g.1) in
+        omega arith
 
-  module _ {o : Option ℕ} (e : place m (take (length s - from) (drop from s)) ≡ o) where
-    told : cond (ltb rest (length (drop from s))) (Some rest) None ≡ o
-    told = sym place_is ∙ e
-
-    pub place_found : {i : ℕ} → o ≡ Some i → from + i ≡ find_byte m s from
-    place_found {i} k = either (ltb rest (length (drop from s)))
-        (λ t. let h : Some rest ≡ o = rw t at told in let h : rest ≡ i = cc in omega arith)
-        (λ t. let h : None ≡ o = rw t at told in cc)
-
-    pub place_none : from ≤ length s → o ≡ None → length s ≡ find_byte m s from
-    place_none h k = either (ltb rest (length (drop from s)))
-        (λ t. let h : Some rest ≡ o = rw t at told in cc)
-        (λ t. omega (arith, ltb-false _ _ t, before_most m (drop from s), length-drop from s))
+    pub place_none : IsFirstByte (is_byte m) (take (length s - from) (drop from s)) None → length s ≡ find_byte m s from
+    place_none f =
+        let g = rw all at f in
+        let none : before m (drop from s) ≡ length (drop from s) = before_first (drop from s) (length (drop from s)) (omega arith)
+        (λ k l e. g k (omega arith) l (eq-eqb _ _ e)) (λ l. absurd (omega (arith, l))) in
+        omega (arith, length-drop from s)
 
 -- ---- what lies up to it: bytes that are not m
 abbrev pub Without : ℕ → List ℕ → Type 0

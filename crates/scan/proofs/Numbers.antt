@@ -1,22 +1,24 @@
 -- The reader's way through fields that are numbers: those that are read, behind them those to read.
-use Rattle.std.proofs.Common.{◌≡◌, ℕ, suc, ◌+◌, ◌<◌, ◌≤◌, ltb, ltb-true, ltb-false, Bool, false, cond, List, [], ◌∷◌, ◌++◌, length, take, drop, set, ℤ, pos, sym, refl, ap, ◌∙◌, append-nil, add-one, arith, drop_of_length-le, take_all, drop-cons, take-suc-set, drop-set-lt, Option, Some, None}
+use Rattle.std.proofs.Common.{SFits, w64, get_or, lit<, zero, ◌≡◌, ℕ, suc, ◌+◌, ◌<◌, ◌≤◌, ltb, ltb-true, ltb-false, Bool, false, cond, List, [], ◌∷◌, ◌++◌, length, take, drop, set, ℤ, pos, sym, refl, ap, ◌∙◌, append-nil, add-one, arith, drop_of_length-le, take_all, drop-cons, take-suc-set, drop-set-lt, Option, Some, None, is_some}
 use lib.Seq.{slice, split_at, append_snoc}
 use Rattle.algebra.proofs.Test.{either}
 use Rattle.scan.specs.Decimal.{read_number}
 use Rattle.scan.specs.Fields.{fields_at}
-use Rattle.scan.specs.Numbers.{Numbers, are, none, in_front, numbers, are_there, put_first, stored}
+use Rattle.scan.specs.Numbers.{in_front, numbers, put_first, stored}
+use Rattle.word.proofs.Fits.{sfits_pos}
 use Rattle.scan.proofs.Find.{Ended}
+use Rattle.scan.proofs.Read.{number_is}
 use Rattle.scan.proofs.Fields.{no_field, first_field, some_field}
 
 -- ---- numbers that are there stand where they are stored
-one_more : (n : Option ℤ) (old rest : List ℤ) (ns : Numbers) → ns ≡ cond (are_there ns) (are rest) none →
-    in_front n ns ≡ cond (are_there (in_front n ns)) (are (put_first n old rest)) none
+one_more : (n : Option ℤ) (old rest : List ℤ) (ns : Option (List ℤ)) → ns ≡ cond (is_some ns) (Some rest) None →
+    in_front n ns ≡ cond (is_some (in_front n ns)) (Some (put_first n old rest)) None
 one_more None old rest ns e = refl
-one_more (Some z) old rest none e = refl
-one_more (Some z) old rest (are zs) e = cc
+one_more (Some z) old rest None e = refl
+one_more (Some z) old rest (Some zs) e = cc
 
 numbers_stored : (into : List ℤ) (fs : List (List ℕ)) →
-    numbers (length into) fs ≡ cond (are_there (numbers (length into) fs)) (are (stored into fs)) none
+    numbers (length into) fs ≡ cond (is_some (numbers (length into) fs)) (Some (stored into fs)) None
 unfolding numbers stored
 numbers_stored [] [] = refl
 numbers_stored [] (f ∷ fs) = refl
@@ -25,22 +27,37 @@ numbers_stored (x ∷ xs) (f ∷ fs) = one_more (read_number f) (x ∷ xs) (stor
 
 -- for the caller
 pub numbers_read : (into : List ℤ) (fs : List (List ℕ)) {r : Bool} {new : List ℤ} →
-    (r ≡ are_there (numbers (length into) fs)) × (new ≡ stored into fs) → numbers (length into) fs ≡ cond r (are new) none
+    (r ≡ is_some (numbers (length into) fs)) × (new ≡ stored into fs) → numbers (length into) fs ≡ cond r (Some new) None
 numbers_read into fs p = rw (p.0, p.1) (numbers_stored into fs)
+
+-- and each of them fits
+pub numbers_fit : (n : ℕ) (fs : List (List ℕ)) (zs : List ℤ) → numbers n fs ≡ Some zs → (i : ℕ) → SFits w64 (get_or zs i (pos 0))
+unfolding numbers
+numbers_fit zero [] zs e i = let k : zs ≡ [] = cc in rw k (sfits_pos (lit< tt))
+numbers_fit zero (f ∷ fs) zs e i = cc
+numbers_fit (suc n) [] zs e i = cc
+numbers_fit (suc n) (f ∷ fs) zs e i = go (read_number f) (numbers n fs) refl (λ ys k. numbers_fit n fs ys k) e i
+  where
+    go : (r : Option ℤ) (ns : Option (List ℤ)) → read_number f ≡ r → ((ys : List ℤ) → ns ≡ Some ys → (i : ℕ) → SFits w64 (get_or ys i (pos 0))) →
+        in_front r ns ≡ Some zs → (i : ℕ) → SFits w64 (get_or zs i (pos 0))
+    go None ns r h e i = cc
+    go (Some z) None r h e i = cc
+    go (Some z) (Some ys) r h e zero = let k : zs ≡ z ∷ ys = cc in rw k (number_is f z r).fits
+    go (Some z) (Some ys) r h e (suc i) = let k : zs ≡ z ∷ ys = cc in rw k (h ys refl i)
 
 -- ---- what comes of a list with i numbers read, by the fields that are left
 unfoldable pub outcome : List ℤ → ℕ → List (List ℕ) → Bool × List ℤ
-outcome into i fs = (are_there (numbers (length (drop i into)) fs), take i into ++ stored (drop i into) fs)
+outcome into i fs = (is_some (numbers (length (drop i into)) fs), take i into ++ stored (drop i into) fs)
 
 -- as the contract says it
 pub comes : (into : List ℤ) (fs : List (List ℕ)) {o : Bool × List ℤ} {r : Bool} {new : List ℤ} → o ≡ outcome into 0 fs → o ≡ (r, new) →
-    (r ≡ are_there (numbers (length into) fs)) × (new ≡ stored into fs)
+    (r ≡ is_some (numbers (length into) fs)) × (new ≡ stored into fs)
 unfolding outcome
 comes into fs h e = let p = sym e ∙ h in (ap (λ p. p.0) p, ap (λ p. p.1) p)
 
-there_front : (z : ℤ) (ns : Numbers) → are_there (in_front (Some z) ns) ≡ are_there ns
-there_front z none = refl
-there_front z (are zs) = refl
+there_front : (z : ℤ) (ns : Option (List ℤ)) → is_some (in_front (Some z) ns) ≡ is_some ns
+there_front z None = refl
+there_front z (Some zs) = refl
 
 module _ (l : List ℕ) (into : List ℤ) (i next : ℕ) where
   -- ---- with i numbers read

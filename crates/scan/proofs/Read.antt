@@ -97,17 +97,8 @@ read_show (negsuc n) f =
     (ap (λ (k : ℕ). Some (negsuc k)) (omega arith))
 
 -- ---- what is read as a number is that number written
-no_natural : {A : Type 0} (v : ℕ) → None ≡ Some v → A
-no_natural v e = absurd (bad e)
-  where
-    bad : None ≡ Some v → ⊥
-    bad e = let z : ◌≡◌ {A = ℕ} 0 1 = cc in omega arith
-
-pub no_number : {A : Type 0} (z : ℤ) → None ≡ Some z → A
-no_number z e = absurd (bad e)
-  where
-    bad : None ≡ Some z → ⊥
-    bad e = let z : ◌≡◌ {A = ℕ} 0 1 = cc in omega arith
+pub no_value : {T A : Type 0} {x : T} → None ≡ Some x → A
+no_value e = cc
 
 record Digit (a d : ℕ) (ds : List ℕ) (v : ℕ) : Type 0 where
   low : 48 ≤ d
@@ -117,8 +108,8 @@ record Digit (a d : ℕ) (ds : List ℕ) (v : ℕ) : Type 0 where
 digit : (a d : ℕ) (ds : List ℕ) (v : ℕ) → value a (d ∷ ds) ≡ Some v → Digit a d ds v
 unfolding value
 digit a d ds v e =
-    either (ltb d 48) (λ p. no_natural v (rw p at e))
-    (λ p. either (ltb 57 d) (λ q. no_natural v (rw (p, q) at e))
+    either (ltb d 48) (λ p. no_value (rw p at e))
+    (λ p. either (ltb 57 d) (λ q. no_value (rw (p, q) at e))
     (λ q. record { low = ltb-false d 48 p; high = ltb-false 57 d q; then = rw (p, q) at e }))
 
 -- the digits behind a number that is not 0
@@ -138,13 +129,13 @@ record IsNatural (f : List ℕ) (v : ℕ) : Type 0 where
   small : v ≤ 2 ^ 63
 
 up_to_lem : (m v : ℕ) (n : Option ℕ) → up_to m n ≡ Some v → (n ≡ Some v) × (v ≤ m)
-up_to_lem m v None e = no_natural v e
+up_to_lem m v None e = no_value e
 up_to_lem m v (Some w) e =
-    either (leb w m) (λ h. let f = rw h at e in let s : w ≡ v = cc in (f, omega (arith, leb-true w m h))) (λ h. no_natural v (rw h at e))
+    either (leb w m) (λ h. let f = rw h at e in let s : w ≡ v = cc in (f, omega (arith, leb-true w m h))) (λ h. no_value (rw h at e))
 
 natural_is : (f : List ℕ) (v : ℕ) → read_natural f ≡ Some v → IsNatural f v
 unfolding read_natural
-natural_is [] v e = no_natural v e
+natural_is [] v e = no_value e
 natural_is (d ∷ ds) v e =
     either (eqb d 48) (λ h. zero_case ds (eqb-true d 48 h) (rw h at e))
     (λ h. digits_case (eqb-false d 48 h) (up_to_lem (2 ^ 63) v (value 0 (d ∷ ds)) (rw h at e)))
@@ -155,7 +146,7 @@ natural_is (d ∷ ds) v e =
         record { written = rw (h, ← z) (sym (digits_one 0 (omega arith))); small = omega arith }
     zero_case (x ∷ l) h e =
         let p : 0 < suc (length l) = omega arith in
-        no_natural v (rw (lt-ltb 0 (suc (length l)) p) at e)
+        no_value (rw (lt-ltb 0 (suc (length l)) p) at e)
 
     above : (d : ℕ) → (d ≡ 48 → ⊥) → 48 ≤ d → 1 ≤ d - 48
     above d n h = omega arith
@@ -189,20 +180,20 @@ pub record IsNumber (f : List ℕ) (z : ℤ) : Type 0 where
 
 plus_is : (f : List ℕ) (n : Option ℕ) (z : ℤ) → read_natural f ≡ n → plus n ≡ Some z → IsNumber f z
 unfolding show_number
-plus_is f None z r e = no_number z e
+plus_is f None z r e = no_value e
 plus_is f (Some v) z r e =
-    either (leb v (2 ^ 63 - 1)) (λ h. let f = rw h at e in is (cc) (leb-true v (2 ^ 63 - 1) h)) (λ h. no_number z (rw h at e))
+    either (leb v (2 ^ 63 - 1)) (λ h. let f = rw h at e in is (cc) (leb-true v (2 ^ 63 - 1) h)) (λ h. no_value (rw h at e))
   where
     is : z ≡ pos v → v ≤ 2 ^ 63 - 1 → IsNumber f z
     is h l = rw h (record { written = (natural_is f v r).written; fits = record { sfits = omega arith } })
 
 minus_is : (f : List ℕ) (n : Option ℕ) (z : ℤ) → read_natural f ≡ n → minus n ≡ Some z → IsNumber (45 ∷ f) z
 unfolding show_number
-minus_is f None z r e = no_number z e
+minus_is f None z r e = no_value e
 minus_is f (Some v) z r e = go v r e
   where
     go : (v : ℕ) → read_natural f ≡ Some v → cond (eqb v 0) None (Some (negsuc (v - 1))) ≡ Some z → IsNumber (45 ∷ f) z
-    go zero r e = no_number z e
+    go zero r e = no_value e
     go (suc v) r e =
         let i = natural_is f (suc v) r in
         let k : suc v - 1 ≡ v = omega arith in
@@ -213,7 +204,7 @@ minus_is f (Some v) z r e = go v r e
 -- THE LAW, the other way
 pub number_is : (f : List ℕ) (z : ℤ) → read_number f ≡ Some z → IsNumber f z
 unfolding read_number
-number_is [] z e = no_number z e
+number_is [] z e = no_value e
 number_is (c ∷ cs) z e =
     either (eqb c 45) (λ h. rw (eqb-true c 45 h) (minus_is cs (read_natural cs) z refl (rw h at e)))
     (λ h. plus_is (c ∷ cs) (read_natural (c ∷ cs)) z refl (rw h at e))

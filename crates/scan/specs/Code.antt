@@ -1,13 +1,9 @@
 -- Only private contracts cite this: a field read in one pass.
-use Rattle.std.specs.Prelude.{◌≡◌, ℕ, ◌<◌, ◌≤◌, Bool, true, cond, List, length, ◌==◌, nat_lt, slice_index, Option, option_map, position}
+use Rattle.std.specs.Prelude.{◌≡◌, ℕ, ◌<◌, ◌≤◌, Bool, true, cond, List, length, ◌==◌, nat_lt, slice_index, Option, option_map}
 use Rattle.std.proofs.Math.Seq.{slice}
 use Rattle.scan.specs.declared.Field.{Field}
 use Rattle.scan.specs.Decimal.{value}
 use Rattle.scan.specs.Find.{find_byte}
-
--- where a byte stands first, if it does
-unfoldable pub place : ℕ → List ℕ → Option ℕ
-place m s = position (λ b. b == m) s
 
 -- a field ends at i: at a tab, or at the end of s
 abbrev pub ends_at : List ℕ → ℕ → Bool

@@ -1,28 +1,19 @@
 -- So many numbers from fields (01, A sheet line: "then exponent and start (4 numbers) for EXP, the point (2 numbers) for LOG").
-use Rattle.std.specs.Prelude.{ℕ, zero, suc, Bool, true, false, List, [], ◌∷◌, ℤ, Option, Some, None}
+use Rattle.std.specs.Prelude.{ℕ, zero, suc, List, [], ◌∷◌, ℤ, Option, Some, None}
 use Rattle.scan.specs.Decimal.{read_number}
 
-pub data Numbers : Type 0 where
-  are : List ℤ → Numbers
-  none : Numbers
-
 -- a number in front
-abbrev pub in_front : Option ℤ → Numbers → Numbers
-in_front None zs = none
-in_front (Some z) none = none
-in_front (Some z) (are zs) = are (z ∷ zs)
+abbrev pub in_front : Option ℤ → Option (List ℤ) → Option (List ℤ)
+in_front None zs = None
+in_front (Some z) None = None
+in_front (Some z) (Some zs) = Some (z ∷ zs)
 
 -- the fields are n numbers and no more
-unfoldable pub numbers : ℕ → List (List ℕ) → Numbers
-numbers zero [] = are []
-numbers zero (f ∷ fs) = none
-numbers (suc n) [] = none
+unfoldable pub numbers : ℕ → List (List ℕ) → Option (List ℤ)
+numbers zero [] = Some []
+numbers zero (f ∷ fs) = None
+numbers (suc n) [] = None
 numbers (suc n) (f ∷ fs) = in_front (read_number f) (numbers n fs)
-
--- whether they are there
-abbrev pub are_there : Numbers → Bool
-are_there none = false
-are_there (are zs) = true
 
 -- a list as it was, or with a number first
 abbrev pub put_first : Option ℤ → (old rest : List ℤ) → List ℤ

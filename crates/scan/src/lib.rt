@@ -2,13 +2,15 @@
 // function is total: a part of a slice is cut to the slice.
 #![tactic(auto)]
 
-ghost use Rattle.std.specs.Prelude.{◌≡◌, ◌+◌, ◌≤◌, length};
+ghost use Rattle.std.specs.Prelude.{◌≡◌, ◌+◌, ◌≤◌, is_some, length};
 ghost use Rattle.std.proofs.Math.Seq.{slice};
 ghost use Rattle.scan.specs.Decimal.{read_natural, read_number};
 ghost use Rattle.scan.specs.Find.{find_byte};
 ghost use Rattle.scan.specs.Fields.{fields_at, same_bytes};
-ghost use Rattle.scan.specs.Numbers.{numbers, are_there, stored};
-ghost use Rattle.scan.specs.Code.{ends_at, place, field_at, Worth};
+ghost use Rattle.scan.specs.Numbers.{numbers, stored};
+ghost use Rattle.scan.specs.Code.{ends_at, field_at, Worth};
+
+use memchr::memchr;
 
 // What is read in front of a place: its value, and the place.
 #[derive(Clone, Copy)]
@@ -24,18 +26,10 @@ pub fn find_byte(s: &[u8], from: usize, byte: u8) -> usize
     if s.len() < from {
         return from;
     }
-    match first(&s[from..], byte) {
+    match memchr(byte, &s[from..]) {
         Some(i) => from + i,
         None => s.len(),
     }
-}
-
-// Where `byte` stands first in s.
-#[tactic(auto, unfolding(crate::specs::Code::place))]
-fn first(s: &[u8], byte: u8) -> Option<usize>
-    ensures { result ≡ place byte s.now }
-{
-    s.iter().position(|&b| b == byte)
 }
 
 // Whether a field ends at i: at a tab, or at the end of s.
@@ -138,7 +132,7 @@ pub fn same_bytes(s: &[u8], from: usize, to: usize, word: &[u8]) -> bool
 
 // Whether the fields from `at` on are as many numbers as `into` holds, and no more. Each goes to its place, up to the first that is none.
 pub fn read_numbers(s: &[u8], at: usize, into: &mut [i64]) -> bool
-    ensures value { result ≡ are_there (numbers (length into.old) (fields_at s.now at)) }
+    ensures value { result ≡ is_some (numbers (length into.old) (fields_at s.now at)) }
     ensures into { into.new ≡ stored into.old (fields_at s.now at) }
 {
     let mut next = at;

@@ -3,10 +3,11 @@ use mathlib.Core.Path.{◌≡◌, refl, sym, ap, ◌∙◌}
 use mathlib.Core.List.{List, [], ◌∷◌, ◌++◌, append-nil, append_assoc}
 use Prim.Native.Nat.{ℕ, zero, suc, ◌+◌, ◌-◌, ◌≤◌, ◌<◌}
 use native.Mathlib.Omega.{arith}
-use native.Mathlib.Numerals.{add-one}
 use native.Mathlib.Nat.{le_refl}
-use lib.ListN.{length, get_or, take, drop, set, length-append, length-drop}
-use lib.Seq.{slice, slice-cons, slice_empty, take-suc-set, take_all, length-take-le, take-append-le, drop-length, drop-drop, sets-eq}
+use Prim.Native.Nat.{min}
+use Rattle.std.proofs.lemmas.List.{take_min}
+use lib.ListN.{length, take, drop, length-append, length-drop}
+use lib.Seq.{take-append-add, take-append_seam, take_all, length-take-le, drop-length, drop-drop, sets-eq}
 use borrow.Rule.Slice.PartMut.{mid_of, put_mid, Post-is}
 use Rattle.buffer.specs.Code.{Put, Front}
 use Rattle.stream.specs.Machine.{last_line, Place, kept_bytes}
@@ -15,37 +16,50 @@ pub same_begun : {σ : Type 0} (s : σ) {k l : List ℕ} → k ≡ l →
     ◌≡◌ {A = Place σ} (record { state = s; begun = k }) (record { state = s; begun = l })
 same_begun s e = rw e
 
--- ---- so many bytes as a front has, taken again
-pub take_again : (n : ℕ) (bytes : List ℕ) → take (length (take n bytes)) bytes ≡ take n bytes
-take_again zero bytes = refl
-take_again (suc n) [] = refl
-take_again (suc n) (x ∷ bytes) = ap (λ (l : List ℕ). x ∷ l) (take_again n bytes)
+-- ---- bytes more, as many as there is room for, behind those that are kept
+module _ (n : ℕ) (bytes more : List ℕ) (e : length bytes ≡ kept_bytes) where
+  abbrev kept : ℕ
+  kept = min n kept_bytes
 
-pub length_take_most : (n : ℕ) (bytes : List ℕ) → length (take n bytes) ≤ length bytes
-length_take_most zero bytes = omega arith
-length_take_most (suc n) [] = omega arith
-length_take_most (suc n) (x ∷ bytes) = omega (arith, length_take_most n bytes)
+  abbrev fit : ℕ
+  fit = min (length more) (kept_bytes - kept)
 
--- ---- a byte more, where there is room, and no more where there is none
-module _ (bytes s : List ℕ) (len i to : ℕ) (n : length bytes ≡ kept_bytes) where
-  pub kept_more : len < kept_bytes → i < to → to ≤ length s →
-      take kept_bytes (take (len + 1) (set bytes len (get_or s i 0)) ++ slice (i + 1) to s) ≡ take kept_bytes (take len bytes ++ slice i to s)
-  kept_more h k m =
-      let q : len < length bytes = omega arith in
-      rw (add-one len, add-one i, take-suc-set bytes len (get_or s i 0) q, slice-cons i to s 0 k m)
-      (ap (take kept_bytes) (append_assoc (take len bytes) (get_or s i 0 ∷ []) (slice (suc i) to s)))
+  front : List ℕ
+  front = take kept bytes
 
-  pub kept_full : kept_bytes ≤ len → take len bytes ≡ take kept_bytes (take len bytes ++ slice i to s)
-  kept_full h =
-      let q : length bytes ≤ len = omega arith in
-      let r : kept_bytes ≤ length bytes = omega arith in
-      rw (take_all len bytes q) (sym (take-append-le kept_bytes bytes (slice i to s) r ∙ take_all kept_bytes bytes (omega arith)))
+  front_length : length front ≡ kept
+  unfolding front
+  front_length = length-take-le kept bytes (omega arith)
 
-  pub kept_all : len ≤ kept_bytes → i ≡ to → take len bytes ≡ take kept_bytes (take len bytes ++ slice i to s)
-  kept_all h e =
-      let q : len ≤ length bytes = omega arith in
-      let m : length (take len bytes) ≤ kept_bytes = rw (length-take-le len bytes q) h in
-      rw (e, slice_empty to s, append-nil) (sym (take_all kept_bytes (take len bytes) m))
+  begun : take n bytes ≡ front
+  unfolding front
+  begun = sym (rw e at (take_min n bytes))
+
+  fit_length : length (take fit more) ≡ fit
+  fit_length = length-take-le fit more (omega arith)
+
+  in_room : take kept_bytes (front ++ more) ≡ front ++ take fit more
+  in_room =
+      let k : kept_bytes ≡ length front + (kept_bytes - kept) = omega (arith, front_length) in
+      let m : fit ≡ min (kept_bytes - kept) (length more) = omega arith in
+      ap (λ (i : ℕ). take i (front ++ more)) k ∙ (take-append-add front more (kept_bytes - kept)
+      ∙ ap (λ (t : List ℕ). front ++ t) (sym (ap (λ (i : ℕ). take i more) m ∙ take_min (kept_bytes - kept) more)))
+
+  with_rest : (rest : List ℕ) → take (kept + fit) (front ++ (take fit more ++ rest)) ≡ front ++ take fit more
+  with_rest rest =
+      let k : kept + fit ≡ length front + fit = omega (arith, front_length) in
+      let s : take fit (take fit more ++ rest) ≡ take fit more
+      = ap (λ (i : ℕ). take i (take fit more ++ rest)) (sym fit_length) ∙ take-append_seam (take fit more) rest in
+      ap (λ (i : ℕ). take i (front ++ (take fit more ++ rest))) k
+      ∙ (take-append-add front (take fit more ++ rest) fit ∙ ap (λ (t : List ℕ). front ++ t) s)
+
+  pub kept_more : {a m : ℕ} {part : List ℕ} → a ≡ kept → m ≡ min (length more) (kept_bytes - a) → part ≡ take (a + m - a) more →
+      take (a + m) (put_mid a (a + m - a) bytes part) ≡ take kept_bytes (take n bytes ++ more)
+  unfolding front
+  kept_more {a} {m} g q p =
+      let s : m ≡ fit = omega arith in
+      let h : a + m - a ≡ fit = omega arith in
+      rw (p, h, g, s) (with_rest _ ∙ sym (ap (λ (t : List ℕ). take kept_bytes (t ++ more)) begun ∙ in_room))
 
 -- ---- a line that has begun is a last line
 pub last_some : (n : ℕ) (bytes : List ℕ) → 0 < length bytes → (n ≡ 0 → ⊥) → last_line (take n bytes) ≡ take n bytes ∷ []
@@ -61,9 +75,6 @@ last_some (suc n) (x ∷ bytes) h k = refl
 module _ (b : List ℕ) (at : ℕ) (h : at ≤ length b) where
   rest : mid_of at (length b - at) b ≡ drop at b
   rest = take_all (length b - at) (drop at b) (simp length-drop (le_refl (length b - at)))
-
-  pub rest_length : length (mid_of at (length b - at) b) ≡ length b - at
-  rest_length = rw rest (length-drop at b)
 
   module _ {xs part : List ℕ} {n : ℕ} (f : Front xs (mid_of at (length b - at) b) part n)
       (same : length part ≡ length (mid_of at (length b - at) b)) where

@@ -2,7 +2,6 @@
 #![tactic(auto)]
 
 ghost use Rattle.std.specs.Prelude.{◌≡◌, ◌++◌, ◌≤◌, length, take, drop};
-ghost use Rattle.std.proofs.Math.Seq.{slice};
 ghost use Rattle.text.specs.Answer.{answer_room};
 ghost use Rattle.stream.specs.Machine.{new_line, go_on, cut, line_end, answers_from, place_after, read_within, answers_at_end};
 ghost use Rattle.stream.specs.Sheet.{initial, machine, heading, place_of, unless_short};
@@ -82,28 +81,25 @@ fn new_line(state: State) -> Place
     }
 }
 
-// How many bytes of the line are kept.
-fn count(place: Place) -> usize
-    ensures { result ≡ length (place_of place).begun }
-{
-    let len = place.len;
-    if len < KEPT { len } else { KEPT }
+impl Place {
+    // What is kept of the line.
+    fn begun(&self) -> &[u8]
+        ensures { result.now ≡ (place_of self.now).begun }
+    {
+        let end = self.len.min(KEPT);
+        &self.bytes[..end]
+    }
 }
 
-// The line goes on with the bytes of s from `from` up to `to`.
-fn extended(place: Place, s: &[u8], from: usize, to: usize) -> Place
-    requires { (from ≤ to) × (to ≤ length s.now) }
-    ensures { place_of result ≡ cut (go_on (place_of place) (slice from to s.now)) }
+// The line goes on with more bytes.
+fn extended(place: Place, more: &[u8]) -> Place
+    ensures { place_of result ≡ cut (go_on (place_of place) more.now) }
 {
-    let state = place.state;
     let mut bytes = place.bytes;
-    let mut len = count(place);
-    let mut i = from;
-    while i < to && len < KEPT {
-        bytes[len] = s[i];
-        len = len + 1;
-        i = i + 1;
-    }
+    let kept = place.len.min(KEPT);
+    let len = kept + more.len().min(KEPT - kept);
+    bytes[kept..len].copy_from_slice(&more[..len - kept]);
+    let state = place.state;
     Place { state, bytes, len }
 }
 
@@ -112,23 +108,18 @@ fn answer_begun(place: Place, out: &mut [u8]) -> Answered
     requires { answer_room ≤ length out.old }
     ensures { Wrote (line_end machine (place_of place)) out.old out.new result }
 {
-    let len = count(place);
-    let state = place.state;
-    let bytes = place.bytes;
-    next(state, &bytes[..len], out)
+    next(place.state, place.begun(), out)
 }
 
-// The answer to the line that goes on with the bytes of s from `from` up to `to` and ends there; one that lies whole in s is not copied.
-fn answer_ended(place: Place, s: &[u8], from: usize, to: usize, out: &mut [u8]) -> Answered
-    requires { (from ≤ to) × (to ≤ length s.now) × (answer_room ≤ length out.old) }
-    ensures { Wrote (line_end machine (go_on (place_of place) (slice from to s.now))) out.old out.new result }
+// The answer to the line that goes on with more bytes and ends there; one that lies whole in them is not copied.
+fn answer_ended(place: Place, more: &[u8], out: &mut [u8]) -> Answered
+    requires { answer_room ≤ length out.old }
+    ensures { Wrote (line_end machine (go_on (place_of place) more.now)) out.old out.new result }
 {
-    let len = place.len;
-    if len == 0 {
-        let state = place.state;
-        return next(state, &s[from..to], out);
+    if place.len == 0 {
+        return next(place.state, more, out);
     }
-    answer_begun(extended(place, s, from, to), out)
+    answer_begun(extended(place, more), out)
 }
 
 // The place before a sheet.
@@ -147,12 +138,8 @@ pub fn open(out: &mut [u8]) -> usize
         return 0;
     }
     let word = b"BKM\t48\n";
-    let mut i: usize = 0;
-    while i < word.len() {
-        out[i] = word[i];
-        i = i + 1;
-    }
-    i
+    out[..word.len()].copy_from_slice(word);
+    word.len()
 }
 
 // A piece, as far as there is room for its answers.
@@ -167,15 +154,14 @@ pub fn feed(place: Place, piece: &[u8], out: &mut [u8]) -> Fed
     let mut written: usize = 0;
     let mut end = scan::find_byte(piece, i, 10);
     while end < piece.len() && ANSWER_ROOM <= out.len() - written {
-        let a = answer_ended(here, piece, i, end, &mut out[written..]);
-        let state = a.state;
-        here = new_line(state);
-        written = written + a.written;
+        let a = answer_ended(here, &piece[i..end], &mut out[written..]);
+        here = new_line(a.state);
+        written += a.written;
         i = end + 1;
         end = scan::find_byte(piece, i, 10);
     }
     Fed {
-        place: extended(here, piece, i, end),
+        place: extended(here, &piece[i..end]),
         read: end,
         written,
     }
@@ -189,6 +175,5 @@ pub fn finish(place: Place, out: &mut [u8]) -> usize
     if out.len() < ANSWER_ROOM || place.len == 0 {
         return 0;
     }
-    let a = answer_begun(place, out);
-    a.written
+    answer_begun(place, out).written
 }

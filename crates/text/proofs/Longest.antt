@@ -11,7 +11,7 @@ use Rattle.algebra.proofs.Test.{either}
 use Rattle.buffer.proofs.Written.{short_range}
 use Rattle.scan.specs.Decimal.{read_number}
 use Rattle.scan.specs.Fields.{split, fields, same_bytes}
-use Rattle.scan.specs.Numbers.{Numbers, are, none, in_front, numbers}
+use Rattle.scan.specs.Numbers.{in_front, numbers}
 use Rattle.scan.proofs.Fields.{same_list}
 use Rattle.scan.proofs.Read.{number_is, number_length}
 use Rattle.text.specs.declared.Line.{Line}
@@ -37,9 +37,9 @@ WellFormed line.Malformed = ⊥
 WellFormed (line.Exp serial n exponent start) = Unit
 WellFormed (line.Log serial n point) = Unit
 
-abbrev AreThere : Numbers → Type 0
-AreThere none = ⊥
-AreThere (are zs) = Unit
+abbrev AreThere : Option (List ℤ) → Type 0
+AreThere None = ⊥
+AreThere (Some zs) = Unit
 
 numbers_total : (n : ℕ) (fs : List (List ℕ)) → AreThere (numbers n fs) → total fs ≤ 21 * n
 unfolding numbers total
@@ -48,15 +48,15 @@ numbers_total zero (f ∷ fs) g = absurd g
 numbers_total (suc n) [] g = absurd g
 numbers_total (suc n) (f ∷ fs) g = go (read_number f) (numbers n fs) refl g (numbers_total n fs)
   where
-    go : (r : Option ℤ) (zs : Numbers) → read_number f ≡ r → AreThere (in_front r zs) → (AreThere zs → total fs ≤ 21 * n) →
+    go : (r : Option ℤ) (zs : Option (List ℤ)) → read_number f ≡ r → AreThere (in_front r zs) → (AreThere zs → total fs ≤ 21 * n) →
         length f + 1 + total fs ≤ 21 * suc n
     go None zs e g h = absurd g
-    go (Some z) none e g h = absurd g
-    go (Some z) (are zs) e g h = omega (arith, number_length f z e, h tt)
+    go (Some z) None e g h = absurd g
+    go (Some z) (Some zs) e g h = omega (arith, number_length f z e, h tt)
 
-some : (zs : Numbers) (k : List ℤ → Line) → WellFormed (formed zs k) → AreThere zs
-some none k g = absurd g
-some (are zs) k g = tt
+some : (zs : Option (List ℤ)) (k : List ℤ → Line) → WellFormed (formed zs k) → AreThere zs
+some None k g = absurd g
+some (Some zs) k g = tt
 
 kind_total : (serial : ℤ) (fs : List (List ℕ)) → WellFormed (kind_line serial fs) → total fs ≤ 109
 unfolding kind_line total

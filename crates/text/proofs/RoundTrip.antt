@@ -1,4 +1,5 @@
 -- What is written is read back: an input line as itself, and the fields of every line that begins with a serial and a word.
+use Rattle.std.specs.Prelude.{Some}
 use mathlib.Core.Path.{◌≡◌, refl, ap, ◌∙◌}
 use mathlib.Core.List.{List, [], ◌∷◌, ◌++◌, map, append_assoc}
 use Prim.Native.Nat.{ℕ}
@@ -11,7 +12,7 @@ use Rattle.buffer.specs.Lines.{field_bytes, line_bytes}
 use Rattle.buffer.proofs.Lines.{AllFit}
 use Rattle.scan.specs.Decimal.{read_number}
 use Rattle.scan.specs.Fields.{split, fields, same_bytes}
-use Rattle.scan.specs.Numbers.{are, numbers}
+use Rattle.scan.specs.Numbers.{numbers}
 use Rattle.scan.proofs.Find.{Without}
 use Rattle.scan.proofs.Read.{read_show}
 use Rattle.scan.proofs.Joined.{marked, split_joined, without_append, without_marked, lacks_says, number_without, numbers_without}
@@ -58,7 +59,7 @@ unfolding line_bytes marked
 line_split serial word zs w = split_joined 10 (body_bytes serial word zs) ([] ∷ []) (body_plain serial word zs w) (tt, tt)
 
 -- ---- the fields read
-pub numbers_shown : (zs : List ℤ) → AllFit zs → numbers (length zs) (map show_number zs) ≡ are zs
+pub numbers_shown : (zs : List ℤ) → AllFit zs → numbers (length zs) (map show_number zs) ≡ Some zs
 unfolding numbers
 numbers_shown [] f = refl
 numbers_shown (z ∷ zs) f = rw (read_show z f.0, numbers_shown zs f.1)

@@ -14,9 +14,9 @@ use Rattle.algebra.proofs.Test.{either}
 use Rattle.scan.specs.Decimal.{read_number}
 use Rattle.scan.specs.Fields.{fields, fields_at, same_bytes}
 use Rattle.scan.proofs.Find.{Ended}
-use Rattle.scan.proofs.Read.{no_number}
+use Rattle.scan.proofs.Read.{no_value}
 use Rattle.scan.proofs.Fields.{no_field, field_parts}
-use Rattle.scan.specs.Numbers.{Numbers, are, none, numbers}
+use Rattle.scan.specs.Numbers.{numbers}
 use Rattle.text.specs.declared.Line.{Line}
 use Rattle.text.specs.Line.{is_serial, EXP, LOG, formed, exp_of, log_of, kind_line, serial_line, line_of, read_line, serial_of}
 
@@ -34,13 +34,13 @@ kind_serial serial (f ∷ fs) h =
     either (same_bytes f EXP) (λ e. rw e (exp (numbers 5 fs)))
     (λ e. rw e (either (same_bytes f LOG) (λ g. rw g (log (numbers 3 fs))) (λ g. rw g tt)))
   where
-    exp : (r : Numbers) → Ranged (serial_of (formed r (exp_of serial)))
-    exp (are zs) = h
-    exp none = tt
+    exp : (r : Option (List ℤ)) → Ranged (serial_of (formed r (exp_of serial)))
+    exp (Some zs) = h
+    exp None = tt
 
-    log : (r : Numbers) → Ranged (serial_of (formed r (log_of serial)))
-    log (are zs) = h
-    log none = tt
+    log : (r : Option (List ℤ)) → Ranged (serial_of (formed r (log_of serial)))
+    log (Some zs) = h
+    log None = tt
 
 pub line_serial : (l : List ℕ) → Ranged (serial_of (read_line l))
 unfolding read_line line_of
@@ -62,24 +62,24 @@ record Read (z : ℤ) (r : Option ℤ) (fs : List (List ℕ)) : Type 0 where
 
 kind_read : (serial z : ℤ) (fs : List (List ℕ)) → serial_of (kind_line serial fs) ≡ Some z → Read z (Some serial) fs
 unfolding kind_line
-kind_read serial z [] e = no_number z e
+kind_read serial z [] e = no_value e
 kind_read serial z (f ∷ fs) e =
     either (same_bytes f EXP) (λ g. kind (numbers 5 fs) (exp_of serial) (λ zs. refl) (rw g at e))
     (λ g. either (same_bytes f LOG) (λ h. kind (numbers 3 fs) (log_of serial) (λ zs. refl) (rw (g, h) at e))
-    (λ h. no_number z (rw (g, h) at e)))
+    (λ h. no_value (rw (g, h) at e)))
   where
     more : 0 < suc (length fs)
     more = omega arith
 
-    kind : (r : Numbers) (k : List ℤ → Line) → ((zs : List ℤ) → serial_of (k zs) ≡ Some serial) → serial_of (formed r k) ≡ Some z →
+    kind : (r : Option (List ℤ)) (k : List ℤ → Line) → ((zs : List ℤ) → serial_of (k zs) ≡ Some serial) → serial_of (formed r k) ≡ Some z →
         Read z (Some serial) (f ∷ fs)
-    kind (are zs) k is e = record { number = sym (is zs) ∙ e; others = more }
-    kind none k is e = no_number z e
+    kind (Some zs) k is e = record { number = sym (is zs) ∙ e; others = more }
+    kind None k is e = no_value e
 
 line_read : (z : ℤ) (r : Option ℤ) (fs : List (List ℕ)) → serial_of (serial_line r fs) ≡ Some z → Read z r fs
-line_read z None fs e = no_number z e
+line_read z None fs e = no_value e
 line_read z (Some y) fs e =
-    either (is_serial y) (λ h. kind_read y z fs (rw h at e)) (λ h. no_number z (rw h at e))
+    either (is_serial y) (λ h. kind_read y z fs (rw h at e)) (λ h. no_value (rw h at e))
 
 -- e is the place of the first tab
 pub first_number : (l : List ℕ) (z : ℤ) {e : ℕ} → Ended 9 l 0 e → serial_of (read_line l) ≡ Some z → (read_number (slice 0 e l) ≡ Some z) × (e < length l)

@@ -3,7 +3,7 @@ use Rattle.std.specs.Prelude.{Bool, cond, List, [], ◌∷◌, ℕ, ℤ, pos, ge
 use Rattle.word.specs.Compare.{between}
 use Rattle.scan.specs.Decimal.{read_number}
 use Rattle.scan.specs.Fields.{fields, same_bytes}
-use Rattle.scan.specs.Numbers.{Numbers, are, none, numbers}
+use Rattle.scan.specs.Numbers.{numbers}
 use Rattle.point.specs.declared.Point.{Point}
 use Rattle.text.specs.declared.Line.{Line}
 use Rattle.text.specs.declared.Line.TheVariants.{Exp, Log, Malformed}
@@ -20,9 +20,9 @@ REF = 82 ∷ 69 ∷ 70 ∷ []
 
 -- ---- the fields from the third on, by the kind
 -- the line that numbers make, if they are there
-abbrev pub formed : Numbers → (List ℤ → Line) → Line
-formed none k = Malformed
-formed (are zs) k = k zs
+abbrev pub formed : Option (List ℤ) → (List ℤ → Line) → Line
+formed None k = Malformed
+formed (Some zs) k = k zs
 
 abbrev pub nth : List ℤ → ℕ → ℤ
 nth zs i = get_or zs i (pos 0)

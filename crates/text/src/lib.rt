@@ -45,13 +45,7 @@ impl Line {
         ensures { result ≡ serial_of self }
     {
         match self {
-            Line::Exp {
-                serial,
-                n,
-                exponent,
-                start,
-            } => Some(serial),
-            Line::Log { serial, n, point } => Some(serial),
+            Line::Exp { serial, .. } | Line::Log { serial, .. } => Some(serial),
             Line::Malformed => None,
         }
     }
@@ -72,11 +66,7 @@ fn exp_line(s: &[u8], serial: i64, at: usize) -> Line
 {
     let mut v = [0i64; 5];
     if scan::read_numbers(s, at, &mut v) {
-        let n = v[0];
-        let ex = v[1];
-        let ey = v[2];
-        let sx = v[3];
-        let sy = v[4];
+        let [n, ex, ey, sx, sy] = v;
         return Line::Exp {
             serial,
             n,
@@ -93,9 +83,7 @@ fn log_line(s: &[u8], serial: i64, at: usize) -> Line
 {
     let mut v = [0i64; 3];
     if scan::read_numbers(s, at, &mut v) {
-        let n = v[0];
-        let x = v[1];
-        let y = v[2];
+        let [n, x, y] = v;
         return Line::Log {
             serial,
             n,
@@ -130,10 +118,7 @@ pub fn read_line(s: &[u8]) -> Line
     let Some(serial) = scan::read_number(s, 0, e) else {
         return Line::Malformed;
     };
-    if serial < 1 {
-        return Line::Malformed;
-    }
-    if 9999999 < serial {
+    if !(1..=9999999).contains(&serial) {
         return Line::Malformed;
     }
     kind_line(s, serial, e + 1)

@@ -23,7 +23,7 @@ pub returns : goal.returns
 unfolding answers_at_end answers
 returns c =
     let p = c.args.place in
-    let f = c.answer_begun-a.ensures.bytes in
+    let f = c.answer_begun.ensures.bytes in
     let whole : length p.bytes ≡ kept_bytes = search rules in
     let line = last_some p.len p.bytes (omega (arith, whole)) c.if-place-eq0.false in
     rw (le-ltb (length c.args.out.now) answer_room (omega arith), line, append-nil)

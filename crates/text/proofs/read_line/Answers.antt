@@ -1,23 +1,27 @@
 -- `text::read_line` meets its contract: the serial, and what its kind asks for.
 use Rattle.std.specs.Prelude.{Option, Some}
 use mathlib.Core.Path.{◌≡◌, ap, sym, ◌∙◌}
-use mathlib.Core.Bool.{cond}
+use mathlib.Core.Bool.{cond, true, false}
 use mathlib.Core.List.{List, [], ◌∷◌}
-use Prim.Native.Nat.{ℕ, ◌+◌, ◌≤◌}
+use Prim.Native.Nat.{ℕ, ◌+◌}
 use native.Mathlib.Omega.{arith}
-use lib.IntN.{ℤ, pos}
-use Rattle.algebra.specs.Order.{◌⩽◌, ◌⋖◌}
+use lib.IntN.{ℤ, pos, ◌+ℤ◌}
+use Rattle.std.specs.Ordering.{is_le, int_cmp}
+use lib.Signed.{le_z, lt_z}
+use Rattle.algebra.specs.Order.{◌⩽◌}
+use Rattle.algebra.proofs.Test.{either}
+use Rattle.algebra.proofs.Order.{tested, lt_of_suc_le}
 use Rattle.algebra.proofs.Reify.{reify}
-use Rattle.algebra.proofs.Order.{pos_mono}
-use Rattle.algebra.proofs.Linear.{lin, lin<, ◌&◌, ◌&<◌, none}
+use Rattle.algebra.proofs.Linear.{lin, ◌&◌, none}
+use Rattle.word.proofs.Compare.{le_lt_z, lt_lt_z}
 use Rattle.word.specs.Compare.{between}
-use Rattle.word.proofs.Fits.{back, sfits_mag}
-use Rattle.word.proofs.Compare.{lt_z_true, lt_z_false, is_between, below_between, above_between}
+use Rattle.word.proofs.Fits.{back}
 use Rattle.scan.specs.Fields.{fields_at}
 use Rattle.scan.specs.Decimal.{read_number}
 use Rattle.scan.specs.Find.{find_byte}
 use lib.Seq.{slice}
 use Rattle.scan.proofs.Find.{ended}
+use Rattle.scan.proofs.Read.{number_is}
 use Rattle.text.specs.declared.Line.TheVariants.{Malformed}
 use Rattle.text.specs.Line.{read_line, serial_line, kind_line}
 use Rattle.text.proofs.Parse.{serial_field}
@@ -33,36 +37,36 @@ ranged : (line : List ℕ) {e : ℕ} {n : Option ℤ} {serial : ℤ} → e ≡ f
     read_line line ≡ cond (between (pos 1) (pos 9999999) serial) (kind_line serial (fields_at line (e + 1))) Malformed
 ranged line {e} h r i = front line h r ∙ ap (λ k. serial_line k (fields_at line (e + 1))) i
 
--- what a comparison with another number says of the range's end
-at_most : {m : ℕ} {z : ℤ} → z ⩽ pos m → m ≤ 9999999 → z ⩽ pos 9999999
-at_most {m} {z} h l = lin (z ∷ pos m ∷ []) (h & pos_mono l & none) (search reify depth 20) tt
+-- the library's order of signed numbers
+is_le_z : (x y : ℤ) → is_le (int_cmp x y) ≡ le_z x y
+is_le_z x y = tested (λ t. is_le (int_cmp x y) ≡ t) x y above below
+  where
+    above : x ⩽ y → is_le (int_cmp x y) ≡ true
+    above h = either (lt_z x y) (λ e. rw e) (λ e. rw (e, le_lt_z h))
 
-above : {m : ℕ} {z : ℤ} → pos m ⋖ z → 9999999 ≤ m → pos 9999999 ⋖ z
-above {m} {z} h l = lin< (z ∷ pos m ∷ []) (h &< pos_mono l & none) (search reify depth 20) tt
+    below : y +ℤ pos 1 ⩽ x → is_le (int_cmp x y) ≡ false
+    below h =
+        let le : y ⩽ x = lin (y ∷ x ∷ []) (h & none) (search reify depth 20) tt in
+        rw (le_lt_z le, lt_lt_z (lt_of_suc_le h))
 
 pub returns-in_default : goal.returns-in_default
 returns-in_default c = rw (front c.args.s.now c.find_byte-e.ensures c.read_number.ensures, c.in_default.is)
 
-pub returns-then-serial-lt1 : goal.returns-then-serial-lt1
-returns-then-serial-lt1 c =
-    let fits = back (sfits_mag c.in-Some.serial c.in-Some.known_told-1-own.given.0.1) in
-    let under : c.in-Some.serial ⋖ pos 1 = lt_z_true (rw fits at c.if-serial-lt1.true) in
-    rw (ranged c.args.s.now c.find_byte-e.ensures c.read_number.ensures c.in-Some.is, below_between (pos 9999999) under)
-
-pub returns-then-serial-gt9999999 : goal.returns-then-serial-gt9999999
-returns-then-serial-gt9999999 c =
-    let fits = back (sfits_mag c.in-Some.serial c.in-Some.known_told-1-own.given.0.1) in
-    let over : pos 9999999 ⋖ c.in-Some.serial = above (lt_z_true (rw fits at c.if-serial-gt9999999.true)) (omega arith) in
-    rw (ranged c.args.s.now c.find_byte-e.ensures c.read_number.ensures c.in-Some.is, above_between (pos 1) over)
+pub returns-then-not-contains : goal.returns-then-not-contains
+unfolding between
+returns-then-not-contains c =
+    let fits = back (number_is _ c.in-Some.serial (sym c.read_number.ensures ∙ c.in-Some.is)).fits in
+    let outside : between (pos 1) (pos 9999999) c.in-Some.serial ≡ false
+    = sym (rw (fits, c.new.ensures.start, c.new.ensures.end, c.new.ensures.exhausted, is_le_z, is_le_z) at c.if-not-contains.ensures.value) in
+    rw (ranged c.args.s.now c.find_byte-e.ensures c.read_number.ensures c.in-Some.is, outside)
 
 pub overflow_add-e : goal.overflow_add-e
 overflow_add-e c = omega (arith, (ended {from = 0} (omega arith) c.find_byte-e.ensures).high)
 
 pub returns : goal.returns
+unfolding between
 returns c =
-    let fits = back (sfits_mag c.in-Some.serial c.in-Some.known_told-1-own.given.0.1) in
-    let least : pos 1 ⩽ c.in-Some.serial = lt_z_false (rw fits at c.if-serial-lt1.false) in
-    let most : c.in-Some.serial ⩽ pos 9999999 = at_most (lt_z_false (rw fits at c.if-serial-gt9999999.false)) (omega arith) in
-    let kinds : read_line c.args.s.now ≡ kind_line c.in-Some.serial (fields_at c.args.s.now (c.find_byte-e.result + 1))
-    = rw (is_between least most) at (ranged c.args.s.now c.find_byte-e.ensures c.read_number.ensures c.in-Some.is) in
-    rw kinds (rw fits at c.kind_line.ensures)
+    let fits = back (number_is _ c.in-Some.serial (sym c.read_number.ensures ∙ c.in-Some.is)).fits in
+    let inside : between (pos 1) (pos 9999999) c.in-Some.serial ≡ true
+    = sym (rw (fits, c.new.ensures.start, c.new.ensures.end, c.new.ensures.exhausted, is_le_z, is_le_z) at c.if-not-contains.ensures.value) in
+    rw (ranged c.args.s.now c.find_byte-e.ensures c.read_number.ensures c.in-Some.is, inside) (rw fits at c.kind_line.ensures)
