@@ -1,9 +1,8 @@
 -- One call: what an answered one costs at least, what each case gives, and what holds of every one.
-use mathlib.Core.Path.{◌≡◌, refl, sym, ap, subst}
+use mathlib.Core.Path.{◌≡◌, refl, sym, subst}
 use mathlib.Core.Bool.{true, false}
 use mathlib.Core.List.{[], ◌∷◌}
 use native.Mathlib.Omega.{arith}
-use borrow.Author.Tests.{ne_eqb}
 use lib.IntN.{ℤ, pos, negsuc, ◌-ℤ◌}
 use lib.Signed.{lt_z}
 use mir.Syntax.{w64}
@@ -71,12 +70,6 @@ payable o n skipped fits h e {a} is = go a is
           fits = left_fits fits h (lin (n ∷ skipped ∷ []) (least & none) (search reify depth 20) tt);
           least = lin (n ∷ skipped ∷ []) (least & none) (search reify depth 20) tt;
         }
-
--- ---- who calls
-pub no_caller : (n : ℤ) → (n ≡ pos 1 → ⊥) → (n ≡ pos 2 → ⊥) → None ≡ caller_of n
-unfolding caller_of
-no_caller (negsuc n) h k = refl
-no_caller (pos n) h k = rw (ne_eqb n 1 (λ e. h (ap pos e)), ne_eqb n 2 (λ e. k (ap pos e)))
 
 -- ---- what is paid and the outcome by their cases, as the code has them
 module _ (who : Institute) (n : ℤ) (f : Figures) (b : Book) where

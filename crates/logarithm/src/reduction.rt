@@ -126,10 +126,7 @@ fn negated(t: Entry) -> Point
     requires { Parts (number t) (two 61) }
     ensures { result ≡ point (negᵍ (number t)) }
 {
-    Point {
-        x: -t.re,
-        y: -t.im,
-    }
+    Point { x: -t.re, y: -t.im }
 }
 
 // What the steps start from: the turned point scaled and brought near one, and minus the logarithm of the reciprocal. A cell is 2^44 units

@@ -1,5 +1,5 @@
 -- Which whole numbers a signed 64-bit word holds, and that such a number is read back as it is.
-use mathlib.Core.Path.{◌≡◌, sym, ◌∙◌, ap}
+use mathlib.Core.Path.{◌≡◌}
 use mathlib.Core.List.{[], ◌∷◌}
 use Prim.Native.Nat.{ℕ, zero, suc, ◌≤◌, ◌<◌, ◌^◌}
 use native.Mathlib.Omega.{arith}
@@ -22,10 +22,6 @@ back {x} h = to_z-of_z w64 x h
 -- an unsigned number cast to a signed one
 pub word_pos : (n : ℕ) → n < 2 ^ 63 → to_z w64 n ≡ pos n
 word_pos n h = to_z_pos w64 n h
-
--- a test `==` of signed numbers tells of their words
-pub word_inj : {x y : ℤ} → SFits w64 x → SFits w64 y → of_z w64 x ≡ of_z w64 y → x ≡ y
-word_inj f g e = sym (back f) ∙ (ap (to_z w64) e ∙ back g)
 
 -- a negation in code is 0 − x
 pub zero_sub : (x : ℤ) → pos 0 -ℤ x ≡ neg_ℤ x
