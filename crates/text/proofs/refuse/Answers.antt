@@ -10,7 +10,7 @@ use Rattle.text.proofs.refuse.Goals as goal
 pub returns-then-out-lt-ANSWER_ROOM : goal.returns-then-out-lt-ANSWER_ROOM
 returns-then-out-lt-ANSWER_ROOM c =
     let a = short_buffer (refused_reply c.args.serial c.args.refusal) c.args.out.now (omega arith) in
-    record { refusal = a.0; count = a.1.0; bytes = a.1.1 }
+    record { refusal = rw c.from.ensures a.0; count = a.1.0; bytes = a.1.1 }
 
 pub returns : goal.returns
 returns c =

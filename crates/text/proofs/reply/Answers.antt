@@ -14,11 +14,11 @@ use Rattle.text.proofs.reply.Goals as goal
 pub returns-then-out-lt-ANSWER_ROOM : goal.returns-then-out-lt-ANSWER_ROOM
 returns-then-out-lt-ANSWER_ROOM c =
     let a = short_buffer (reply_of c.args.line) c.args.out.now (omega arith) in
-    record { refusal = a.0; count = a.1.0; bytes = a.1.1 }
+    record { refusal = rw c.from.ensures a.0; count = a.1.0; bytes = a.1.1 }
 
 pub returns-in-Malformed : goal.returns-in-Malformed
 unfolding reply_of
-returns-in-Malformed c = rw (c.in-Malformed.is, sym c.from.ensures) c.refuse.ensures
+returns-in-Malformed c = rw c.in-Malformed.is (rw c.from-in-Malformed.ensures at c.refuse.ensures)
 
 pub returns-in-Exp : goal.returns-in-Exp
 unfolding reply_of
