@@ -80,6 +80,6 @@ returns-then-serial-largest c =
     let fit : SFits w64 k.serial = sfits_mag k.serial k.known_told-1-own.given.0.1 in
     let fits : SFits w64 c.args.state.largest = search rules in
     let low : le_z k.serial c.args.state.largest ≡ true = rw (back fit, back fits) at c.if-serial-largest.true in
-    let r = c.refuse-not_above.ensures in
+    let r = rw c.from.ensures at c.refuse-not_above.ensures in
     rw (not_above c.args.state c.args.line.now serial low)
     (wrote (refused_reply k.serial (pos 7)) c.requires (seven c.args.out.now fit (r.refusal, (r.count, r.bytes))) fits refl c.counted.ensures)
