@@ -130,7 +130,7 @@ fn negated(t: Entry) -> Point
 }
 
 // What the steps start from: the turned point scaled and brought near one, and minus the logarithm of the reciprocal. A cell is 2^44 units
-// wide. The logarithm is asked for first: behind the reciprocal its look-up would be compiled to a jump to one of 256 places.
+// wide.
 pub fn begun(w: Point, b: usize) -> State
     requires { ScalePre 48 w b }
     ensures { result ≡ begun 48 reciprocal_table (gauss w) }
