@@ -18,7 +18,7 @@ use Rattle.logarithm.proofs.Ranges.{Ranged, log_ranges}
 use Rattle.doubles.specs.declared.Doubles.{Doubles}
 use Rattle.doubles.specs.declared.UnitsAnswer.{UnitsAnswer}
 use Rattle.doubles.specs.Units.{is_negative, double_of, is_units, units_of}
-use Rattle.doubles.specs.Record.{doubles, in_doubles, doubles_record, units_in, units_record, doubles_answer, accepted, units_answer, Kept, AnswerKept, WrittenBack}
+use Rattle.doubles.specs.Record.{doubles, in_doubles, doubles_record, units_in, units_record, doubles_answer, units_answer, Kept, AnswerKept, WrittenBack}
 use Rattle.doubles.proofs.Value.{double_value}
 use Rattle.doubles.proofs.Reading.{units_say, read_written, written_read}
 use Rattle.doubles.proofs.Tests.{value_number}
@@ -47,7 +47,7 @@ log_small n x y e = small 48 (lit≤ tt) (subst (Ranged 48 n (gi x y)) e (log_ra
 
 -- ---- NOTHING IS LOST of an answer: each double has its part's value, and the record is read back to the same two numbers
 pub small_kept : (F : ℕ) (p : Point) → Small F p → Kept F p (doubles F p.x p.y)
-unfolding units_answer
+unfolding units_answer units_in
 small_kept F p s =
     let k = read_written F p.x s.x in
     let l = read_written F p.y s.y in
@@ -61,25 +61,17 @@ answer_kept F wide n p (Err e) r = tt
 pub log_kept : (n x y : ℤ) → AnswerKept 48 (log_answer n x y) (doubles_answer 48 (log_answer n x y))
 log_kept n x y = answer_kept 48 (lit≤ tt) n (gi x y) (log_answer n x y) (log_ranges n x y)
 
--- what C is handed of an answer in doubles
-pub record_is : (F : ℕ) (a : Answer) → doubles_record (in_doubles F a) ≡ doubles_answer F a
-unfolding doubles_answer
-record_is F (Ok f) = refl
-record_is F (Err r) = refl
-
 pub given : (n x y : ℤ) {r : Result Doubles Refusal} → r ≡ in_doubles 48 (log_answer n x y) → AnswerKept 48 (log_answer n x y) (doubles_record r)
-given n x y e =
-    subst (AnswerKept 48 (log_answer n x y)) (sym (ap doubles_record e ∙ record_is 48 (log_answer n x y))) (log_kept n x y)
+unfolding doubles_answer
+given n x y e = subst (AnswerKept 48 (log_answer n x y)) (sym (ap doubles_record e)) (log_kept n x y)
 
 -- ---- WHAT IS READ is written back to the same two doubles
 pub read_back : (F : ℕ) → F ≤ 52 → (d : Doubles) → T (fits binary64 d.x) → T (fits binary64 d.y) → WrittenBack F d (units_answer F d)
-unfolding units_answer
+unfolding units_answer units_in
 read_back F narrow d f g = go (is_units F d.x) (is_units F d.y) refl refl
   where
     R : Bool → Bool → UnitsAnswer
-    R a b = cond (a && b)
-        (accepted (units_of F d.x) (units_of F d.y))
-        (record { refusal = pos 9; x = pos 0; y = pos 0 })
+    R a b = units_record (cond (a && b) (Some (record { x = units_of F d.x; y = units_of F d.y })) None)
 
     refused : {A : Type 0} → ◌≡◌ {A = ℤ} (pos 9) (pos 0) → A
     refused e = let z : ◌≡◌ {A = ℕ} 9 0 = cc in absurd (omega arith)
@@ -101,17 +93,8 @@ bits_back F narrow b h p =
     ap (to_bits binary64) (written_read F x narrow (of_bits-fits binary64 b) p)
     ∙ to_bits-of_bits binary64 b h (value_number x (is_negative (units_of F x)) (nat_abs (units_of F x)) (2 ^ F) u.value)
 
--- what C is handed of a reading
-pub units_are : (F : ℕ) (d : Doubles) → units_record (units_in F d) ≡ units_answer F d
-unfolding units_in units_answer
-units_are F d = go (is_units F d.x && is_units F d.y)
-  where
-    go : (b : Bool) → units_record (cond b (Some (record { x = units_of F d.x; y = units_of F d.y })) None)
-        ≡ cond b (accepted (units_of F d.x) (units_of F d.y)) (record { refusal = pos 9; x = pos 0; y = pos 0 })
-    go true = refl
-    go false = refl
-
 pub settled : (F : ℕ) → F ≤ 52 → (d : Doubles) {p : Point} → fits binary64 d.x ≡ true → fits binary64 d.y ≡ true → units_in F d ≡ Some p →
     doubles F p.x p.y ≡ d
+unfolding units_answer
 settled F narrow d f g e =
-    subst (WrittenBack F d) (sym (units_are F d) ∙ ap units_record e) (read_back F narrow d (subst T (sym f) tt) (subst T (sym g) tt)) refl
+    subst (WrittenBack F d) (ap units_record e) (read_back F narrow d (subst T (sym f) tt) (subst T (sym g) tt)) refl

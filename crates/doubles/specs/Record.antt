@@ -19,37 +19,33 @@ doubles F x y = record { x = double_of F x; y = double_of F y }
 abbrev pub zeros : Doubles
 zeros = record { x = fin false 0 (pos 0); y = fin false 0 (pos 0) }
 
--- an answer with its two parts as doubles, and what C is handed of it
+-- an answer with its two parts as doubles
 abbrev pub in_doubles : ℕ → Answer → Result Doubles Refusal
 in_doubles F (Ok f) = Ok (doubles F f.value.x f.value.y)
 in_doubles F (Err r) = Err r
 
+-- what C is handed of it: "A LOG answer is given as a record of two doubles"; "A refused LOG gives its number and two zeros"
 abbrev pub doubles_record : Result Doubles Refusal → DoublesAnswer
 doubles_record (Ok d) = record { refusal = pos 0; parts = d }
 doubles_record (Err r) = record { refusal = refusal_number r; parts = zeros }
 
--- "A LOG answer is given as a record of two doubles"; "A refused LOG gives its number and two zeros"
 unfoldable pub doubles_answer : ℕ → Answer → DoublesAnswer
-doubles_answer F (Ok f) = record { refusal = pos 0; parts = doubles F f.value.x f.value.y }
-doubles_answer F (Err r) = record { refusal = refusal_number r; parts = zeros }
+doubles_answer F a = doubles_record (in_doubles F a)
 
--- ---- reading
-abbrev pub accepted : ℤ → ℤ → UnitsAnswer
-accepted x y = record { refusal = pos 0; x = x; y = y }
-
--- two doubles in units, where both are a number of them, and what C is handed of it
+-- ---- reading: two doubles in units, where both are a number of them
 unfoldable pub units_in : ℕ → Doubles → Option Point
 units_in F d = cond (is_units F d.x && is_units F d.y) (Some (record { x = units_of F d.x; y = units_of F d.y })) None
+
+-- what C is handed of it: "Refused: 9, a double of any other kind, with zeros; reading has no other refusal"
+abbrev pub accepted : ℤ → ℤ → UnitsAnswer
+accepted x y = record { refusal = pos 0; x = x; y = y }
 
 abbrev pub units_record : Option Point → UnitsAnswer
 units_record (Some p) = accepted p.x p.y
 units_record None = record { refusal = pos 9; x = pos 0; y = pos 0 }
 
--- "Refused: 9, a double of any other kind, with zeros; reading has no other refusal"
 unfoldable pub units_answer : ℕ → Doubles → UnitsAnswer
-units_answer F d = cond (is_units F d.x && is_units F d.y)
-    (accepted (units_of F d.x) (units_of F d.y))
-    (record { refusal = pos 9; x = pos 0; y = pos 0 })
+units_answer F d = units_record (units_in F d)
 
 -- ---- nothing is lost
 -- each double has the value of its part, and "such a record is read back to the same two whole numbers"
