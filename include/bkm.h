@@ -107,8 +107,8 @@ int64_t bkm_exp(int64_t n, int64_t ex, int64_t ey, int64_t sx, int64_t sy, uint8
 
 /* The same by the register engine, the doubled form that the sorter's maker builds in hardware: the
  * same record and the same number as bkm_exp, byte for byte, for every input. After step n its
- * register is 2^(n+1) times the remainder of the call with that n. It takes some six times as long
- * as bkm_exp: it is there to hold a register in hardware to.
+ * register is 2^(n+1) times the remainder of the call with that n. It takes about as long as
+ * bkm_exp, and is there to hold a register in hardware to.
  */
 int64_t bkm_exp_register(int64_t n, int64_t ex, int64_t ey, int64_t sx, int64_t sy, uint8_t *out, size_t out_len);
 
