@@ -21,7 +21,7 @@ LISTED = {"Numbers48.antt"}
 OF_GOALS = {"Answers.antt", "Invariants.antt", "Proof.antt"}
 # Definitions of the library that stand in none of its specs/, by the module of its proofs/ that passes them on.
 PASSED_ON = {
-    "Common": {"Fits", "SFits", "of_z", "to_z"},
+    "Common": {"Fits", "SFits", "to_z"},
     "Math.Seq": {"slice"},
     "lemmas.List.Edits": {"sets"},
 }

@@ -1,5 +1,5 @@
 #!/usr/bin/env python3
-"""Writes every number of the tables, in the source and in the specification, and the proofs that go over them arm by arm.
+"""Writes every number of the tables, in the source and in the specification, and the proofs of the look-ups.
 
 generate.py writes; generate.py --check compares with what stands and fails on any difference.
 """
