@@ -220,10 +220,7 @@ pub fn reply(line: Line, out: &mut [u8]) -> LineAnswer
     ensures bytes { out.new ≡ out_for (reply_of line) out.old }
 {
     if out.len() < ANSWER_ROOM {
-        return LineAnswer {
-            refusal: i64::from(LineError::NoRoom),
-            written: 0,
-        };
+        return refuse(0, i64::from(LineError::NoRoom), out);
     }
     match line {
         Line::Malformed => refuse(0, i64::from(LineError::Malformed), out),
