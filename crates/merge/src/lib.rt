@@ -66,6 +66,13 @@ pub enum Choice {
 
 // ---- one step
 
+// The first line of a sheet, without its newline.
+fn first_line(s: &[u8]) -> &[u8]
+    ensures { result.now ≡ first_line s.now }
+{
+    &s[..scan::find_byte(s, 0, b'\n')]
+}
+
 // The line in front of s, behind one with the serial `last`.
 pub fn read_front(s: &[u8], last: i64) -> Front
     ensures { result ≡ front last (lines s.now) }
@@ -73,9 +80,7 @@ pub fn read_front(s: &[u8], last: i64) -> Front
     if s.is_empty() {
         return Front::End;
     }
-    let end = scan::find_byte(s, 0, b'\n');
-    let line = text::read_line(&s[..end]);
-    match line.serial() {
+    match text::read_line(first_line(s)).serial() {
         None => Front::Malformed,
         Some(serial) if serial <= last => Front::Fallen,
         Some(serial) => Front::Risen(serial),
@@ -83,12 +88,11 @@ pub fn read_front(s: &[u8], last: i64) -> Front
 }
 
 // Whether two sheets have the same bytes in front, up to the first newline.
+#[tactic(auto, using(scan::proofs::Fields::same_is))]
 fn same_line(a: &[u8], b: &[u8]) -> bool
     ensures { result ≡ same_bytes (first_line a.now) (first_line b.now) }
 {
-    let e = scan::find_byte(a, 0, b'\n');
-    let f = scan::find_byte(b, 0, b'\n');
-    scan::same_bytes(a, 0, e, &b[..f])
+    first_line(a) == first_line(b)
 }
 
 // What to do where the lines in front of a and b have the serials m and n.
@@ -122,8 +126,7 @@ pub fn choose(a: &[u8], b: &[u8], f: Front, g: Front) -> Choice
 fn rest(s: &[u8]) -> &[u8]
     ensures { result.now ≡ behind s.now }
 {
-    let end = scan::find_byte(s, 0, b'\n');
-    &s[(end + 1).min(s.len())..]
+    &s[(first_line(s).len() + 1).min(s.len())..]
 }
 
 // THE STEP: the unread rest of whichever sheet it reads from; all of the first, where it reads no line.
@@ -181,8 +184,7 @@ fn put_first(s: &[u8], out: &mut [u8], at: usize) -> usize
     requires { at + length (first_line s.now) + 1 ≤ length out.old }
     ensures { Put out.old at (first_line s.now ++ 10 ∷ []) out.new result }
 {
-    let end = scan::find_byte(s, 0, b'\n');
-    put_line(&s[..end], out, at)
+    put_line(first_line(s), out, at)
 }
 
 // All lines of a sheet at once: a last line without its newline gets one.
