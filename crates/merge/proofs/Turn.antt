@@ -17,7 +17,7 @@ use Rattle.stream.proofs.Lines.{no_line, some_line}
 use Rattle.merge.specs.declared.Front.{Front}
 use Rattle.merge.specs.declared.Choice.{Choice}
 use Rattle.merge.specs.declared.MergeError.{MergeError}
-use Rattle.merge.specs.Merge.{refusal_number, front_line, front, choice, Merge, stopped, ◌then◌, act, alone, follow, merge_from}
+use Rattle.merge.specs.Merge.{merge_refusal, front_line, front, choice, Merge, stopped, ◌then◌, act, alone, follow, merge_from}
 use Rattle.merge.specs.Call.{first_line, behind, unread}
 use Rattle.merge.specs.declared.Front.TheVariants.{End, Malformed, Fallen, Risen}
 use Rattle.merge.specs.declared.Choice.TheVariants.{Done, First, Passed, Second, Refused}
@@ -170,12 +170,12 @@ module _ {s t : List ℕ} {f g : Front} (l : Left s t f g) where
     pub done : c ≡ Done → rest l ≡ stopped 0
     done d = by d
 
-    pub refused : {r : MergeError} → c ≡ Refused r → rest l ≡ stopped (refusal_number r)
+    pub refused : {r : MergeError} → c ≡ Refused r → rest l ≡ stopped (merge_refusal r)
     refused d = by d
 
     pub ended : (c ≡ Done) ⊎ ((r : MergeError) × (c ≡ Refused r)) → (r : ℕ) × (rest l ≡ stopped r)
     ended (inl d) = (0, done d)
-    ended (inr d) = (refusal_number d.0, refused d.1)
+    ended (inr d) = (merge_refusal d.0, refused d.1)
 
     pub first : {n : ℤ} {r : List ℕ} → c ≡ First n → r ≡ behind s → rest l ≡ first_line s then merge_rest n l.k r t
     first d p = rw p (by d)

@@ -5,7 +5,7 @@ ghost use Rattle.std.specs.Prelude.{◌≡◌, [], ◌∷◌, ◌++◌, ◌+◌,
 ghost use Rattle.scan.specs.Fields.{same_bytes};
 ghost use Rattle.buffer.specs.Code.{Put};
 ghost use Rattle.stream.specs.Machine.{lines};
-ghost use Rattle.merge.specs.Merge.{refusal_number, front, by_serial, choice, merge};
+ghost use Rattle.merge.specs.Merge.{merge_refusal, front, by_serial, choice, merge};
 ghost use Rattle.merge.specs.Code.{InFrontIfPassing};
 ghost use Rattle.merge.specs.Call.{first_line, behind, unread, text, refusal_for, bytes_for, refusal_of, count_of};
 
@@ -25,7 +25,7 @@ pub enum MergeError {
 }
 
 impl From<MergeError> for i64 {
-    ghost from_gives = { λ e n. n ≡ pos (refusal_number e) };
+    ghost from_gives = { λ e n. n ≡ pos (merge_refusal e) };
 
     fn from(e: MergeError) -> i64 {
         match e {
@@ -150,8 +150,10 @@ fn decide<'a>(a: &'a [u8], b: &'a [u8]) -> Result<(), MergeError>
     let mut q = b;
     let mut f = read_front(p, 0);
     let mut g = read_front(q, 0);
+    // named, so that what is to be proved of the loop has a name too, whichever variables it changes
     'lines: loop {
         let c = choose(p, q, f, g);
+        // by reference: of a number taken by value where two patterns share an arm, the check finds no proof
         match &c {
             Choice::Done => return Ok(()),
             Choice::Refused(e) => return Err(*e),
@@ -221,6 +223,7 @@ fn write<'a>(a: &'a [u8], b: &'a [u8], out: &mut [u8]) -> usize
     let mut f = sure_front(p);
     let mut g = sure_front(q);
     let mut w: usize = 0;
+    // named as in `decide`
     'lines: while !p.is_empty() && !q.is_empty() {
         let c = choose(p, q, f, g);
         match c {
