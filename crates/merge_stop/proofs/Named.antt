@@ -19,7 +19,7 @@ use Rattle.merge.specs.Merge.{merge_refusal, front_line, front, choice, Merge, s
 use Rattle.merge.specs.Call.{first_line, behind, unread}
 use Rattle.merge_stop.specs.Stop.{named, none, chosen, met, stop_from, stop}
 use Rattle.merge.proofs.Rules.{BySerial, below, above, twins, differ, by_serial_lem}
-use Rattle.merge.proofs.Turn.{hd, tl, one_sheet, lone_first, lone_second, front_line_lem, behind_lines, read_first, read_second, Left}
+use Rattle.merge.proofs.Turn.{hd, tl, one_sheet, lone_first, lone_second, front_line_lem, behind_lines, Left}
 use Rattle.merge.specs.declared.Front.TheVariants.{End, Malformed, Fallen, Risen}
 use Rattle.merge.specs.declared.Choice.TheVariants.{Done, First, Passed, Second, Refused}
 
@@ -64,11 +64,11 @@ module _ (h i : ℕ) {s t : List ℕ} {f g : Front} (l : Left s t f g) {c : Choi
   by d = rw (← l.first_front, ← l.second_front, ← e, d) at (turn h i l.j l.k s t)
 
   pub first : {n : ℤ} {r : List ℕ} → (c ≡ First n) ⊎ (c ≡ Passed n) → r ≡ unread c s t → stop_rest (h + 1) i n l.k r t ≡ stop_rest h i l.j l.k s t
-  first (inl d) p = rw (add-one, read_first s t (inl d) p) (sym (by d))
-  first (inr d) p = rw (add-one, read_first s t (inr d) p) (sym (by d))
+  first (inl d) p = rw (add-one, p, d) (sym (by d))
+  first (inr d) p = rw (add-one, p, d) (sym (by d))
 
   pub second : {n : ℤ} {r : List ℕ} → c ≡ Second n → r ≡ unread c s t → stop_rest h (i + 1) l.j n s r ≡ stop_rest h i l.j l.k s t
-  second d p = rw (add-one, read_second s t d p) (sym (by d))
+  second d p = rw (add-one, p, d) (sym (by d))
 
 -- ---- what is told of a stop from the h-th and the i-th line on, where the merge is refused with r
 record Told (h i : ℕ) (xs ys : List (List ℕ)) (r : ℕ) (s : Stop) : Type 0 where
