@@ -153,7 +153,7 @@ fn decide<'a>(a: &'a [u8], b: &'a [u8]) -> Result<(), MergeError>
     // named, so that what is to be proved of the loop has a name too, whichever variables it changes
     'lines: loop {
         let c = choose(p, q, f, g);
-        // by reference: of a number taken by value where two patterns share an arm, the check finds no proof
+        // by reference: this Rattle fails on an arm of two patterns that take a number by value
         match &c {
             Choice::Done => return Ok(()),
             Choice::Refused(e) => return Err(*e),
