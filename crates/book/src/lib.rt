@@ -9,7 +9,7 @@ ghost use Rattle.exponential.specs.Answer.{Close as ExpClose};
 ghost use Rattle.logarithm.specs.Answer.{Close as LogClose};
 ghost use Rattle.book.specs.Book.{balance, charged, opened};
 ghost use Rattle.book.specs.declared.Rejection.TheVariants.{Denied};
-ghost use Rattle.book.specs.Call.{caller_of, settled, paid, charge, outcome, exp_by, log_by, OfAnswer, reply_record};
+ghost use Rattle.book.specs.Call.{caller_of, rejection_number, settled, paid, charge, outcome, exp_by, log_by, OfAnswer, reply_record};
 ghost use Rattle.book.specs.Code.{Covered, Payable};
 
 use answer::{Figures, Refusal};
@@ -48,6 +48,17 @@ pub enum Rejection {
     Refused(Refusal),
     // 10: the book does not allow the call
     Denied,
+}
+
+impl From<Rejection> for i64 {
+    ghost from_gives = { λ r n. n ≡ rejection_number r };
+
+    fn from(r: Rejection) -> i64 {
+        match r {
+            Rejection::Refused(r) => i64::from(r),
+            Rejection::Denied => 10,
+        }
+    }
 }
 
 #[derive(Clone, Copy)]
@@ -192,7 +203,6 @@ pub fn record(reply: Result<Figures, Rejection>) -> [i64; 8]
 {
     match reply {
         Ok(figures) => answer::record(Ok(figures)),
-        Err(Rejection::Refused(r)) => answer::record(Err(r)),
-        Err(Rejection::Denied) => [10, 0, 0, 0, 0, 0, 0, 0],
+        Err(r) => [i64::from(r), 0, 0, 0, 0, 0, 0, 0],
     }
 }
