@@ -89,29 +89,31 @@ pub fn open(first: i64, second: i64) -> Opening
     }
 }
 
-fn balance(book: Book, who: Institute) -> i64
-    ensures { result ≡ balance who book }
-{
-    match who {
-        Institute::First => book.first,
-        Institute::Second => book.second,
+impl Book {
+    fn balance(self, who: Institute) -> i64
+        ensures { result ≡ balance who self }
+    {
+        match who {
+            Institute::First => self.first,
+            Institute::Second => self.second,
+        }
     }
-}
 
-// The book after one of the two has paid.
-fn charged(book: Book, who: Institute, cost: i64) -> Book
-    requires { Covered who cost book }
-    ensures { result ≡ charged who cost book }
-{
-    match who {
-        Institute::First => Book {
-            first: book.first - cost,
-            ..book
-        },
-        Institute::Second => Book {
-            second: book.second - cost,
-            ..book
-        },
+    // The book after one of the two has paid.
+    fn charged(self, who: Institute, cost: i64) -> Book
+        requires { Covered who cost self }
+        ensures { result ≡ charged who cost self }
+    {
+        match who {
+            Institute::First => Book {
+                first: self.first - cost,
+                ..self
+            },
+            Institute::Second => Book {
+                second: self.second - cost,
+                ..self
+            },
+        }
     }
 }
 
@@ -143,12 +145,12 @@ fn pay(book: Book, who: Institute, cost: i64, figures: Figures) -> Settled
     requires { pos 0 ⩽ cost }
     ensures { result ≡ paid who cost figures book }
 {
-    if balance(book, who) < cost {
+    if book.balance(who) < cost {
         return denied(book);
     }
     Settled {
         reply: Ok(figures),
-        book: charged(book, who, cost),
+        book: book.charged(who, cost),
     }
 }
 
