@@ -7,7 +7,7 @@ ghost use Rattle.algebra.specs.Order.{◌⩽◌};
 ghost use Rattle.answer.specs.Remainder.{RemainderBelow};
 ghost use Rattle.exponential.specs.Answer.{Close as ExpClose};
 ghost use Rattle.logarithm.specs.Answer.{Close as LogClose};
-ghost use Rattle.book.specs.Book.{balance, charged, opened};
+ghost use Rattle.book.specs.Book.{balance, charged, opened_book, opening_record};
 ghost use Rattle.book.specs.declared.Rejection.TheVariants.{Denied};
 ghost use Rattle.book.specs.Call.{caller_of, rejection_number, settled, paid, charge, outcome, exp_by, log_by, OfAnswer, reply_record};
 ghost use Rattle.book.specs.Code.{Covered, Payable};
@@ -26,7 +26,7 @@ pub struct Book {
     pub second: i64,
 }
 
-// The refusal number or 0, and the book.
+// An opening for C: 10 or 0, and the book.
 #[repr(C)]
 #[derive(Clone, Copy)]
 pub struct Opening {
@@ -70,22 +70,28 @@ pub struct Settled {
 // ---- the balances
 
 // A book with two allowances, each from 0 to MOST.
-#[tactic(auto, unfolding(crate::specs::Book::opened))]
-pub fn open(first: i64, second: i64) -> Opening
-    ensures { result ≡ opened first second }
+#[tactic(auto, unfolding(crate::specs::Book::opened_book))]
+pub fn open(first: i64, second: i64) -> Option<Book>
+    ensures { result ≡ opened_book first second }
 {
-    if point::is_between(0, MOST, first) && point::is_between(0, MOST, second) {
-        return Opening {
-            refusal: 0,
-            book: Book { first, second },
-        };
-    }
-    Opening {
-        refusal: 10,
-        book: Book {
-            first: 0,
-            second: 0,
-        },
+    let both = point::is_between(0, MOST, first) && point::is_between(0, MOST, second);
+    both.then_some(Book { first, second })
+}
+
+impl From<Option<Book>> for Opening {
+    ghost from_gives = { λ b o. o ≡ opening_record b };
+
+    fn from(b: Option<Book>) -> Opening {
+        match b {
+            Some(book) => Opening { refusal: 0, book },
+            None => Opening {
+                refusal: i64::from(Rejection::Denied),
+                book: Book {
+                    first: 0,
+                    second: 0,
+                },
+            },
+        }
     }
 }
 

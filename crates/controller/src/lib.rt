@@ -80,7 +80,7 @@ pub extern "C" fn bkm_log(n: i64, x: i64, y: i64, out: &mut [u8]) -> i64
 pub extern "C" fn bkm_book_open(first: i64, second: i64) -> Opening
     ensures { result ≡ opened first second }
 {
-    book::open(first, second)
+    Opening::from(book::open(first, second))
 }
 
 // What a call through the book gives: the record of an answer and the new book.
