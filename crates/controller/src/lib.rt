@@ -91,13 +91,14 @@ pub struct BookAnswer {
     pub book: Book,
 }
 
-fn book_answer(s: Settled) -> BookAnswer
-    ensures answer { result.«record» ≡ reply_record s.reply }
-    ensures book { result.book ≡ s.book }
-{
-    BookAnswer {
-        record: book::record(s.reply),
-        book: s.book,
+impl From<Settled> for BookAnswer {
+    ghost from_gives = { λ s a. (a.«record» ≡ reply_record s.reply) × (a.book ≡ s.book) };
+
+    fn from(s: Settled) -> BookAnswer {
+        BookAnswer {
+            record: book::record(s.reply),
+            book: s.book,
+        }
     }
 }
 
@@ -121,7 +122,7 @@ pub extern "C" fn bkm_book_exp(
         Point { x: ex, y: ey },
         Point { x: sx, y: sy },
     );
-    book_answer(s)
+    BookAnswer::from(s)
 }
 
 #[unsafe(no_mangle)]
@@ -130,7 +131,7 @@ pub extern "C" fn bkm_book_log(book: Book, caller: i64, n: i64, x: i64, y: i64) 
     ensures book { result.book ≡ (outcome (log_by caller n x y) book).book }
 {
     let s = book::log(book, caller, n, Point { x, y });
-    book_answer(s)
+    BookAnswer::from(s)
 }
 
 // LOG's two parts as doubles, each over 2^48.
