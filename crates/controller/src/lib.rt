@@ -76,6 +76,7 @@ pub extern "C" fn bkm_log(n: i64, x: i64, y: i64, out: &mut [u8]) -> i64
 }
 
 // A book for two institutes, with their allowances.
+#[tactic(auto, unfolding(book::specs::Book::opened))]
 #[unsafe(no_mangle)]
 pub extern "C" fn bkm_book_open(first: i64, second: i64) -> Opening
     ensures { result ≡ opened first second }
