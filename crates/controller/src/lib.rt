@@ -136,6 +136,7 @@ pub extern "C" fn bkm_book_log(book: Book, caller: i64, n: i64, x: i64, y: i64) 
 }
 
 // LOG's two parts as doubles, each over 2^48.
+#[tactic(auto, unfolding(doubles::specs::Record::doubles_answer))]
 #[unsafe(no_mangle)]
 pub extern "C" fn bkm_log_doubles(n: i64, x: i64, y: i64) -> DoublesAnswer
     ensures answer { result ≡ doubles_answer 48 (log_answer n x y) }
@@ -145,6 +146,7 @@ pub extern "C" fn bkm_log_doubles(n: i64, x: i64, y: i64) -> DoublesAnswer
 }
 
 // Two such doubles read back as whole numbers of units.
+#[tactic(auto, unfolding(doubles::specs::Record::units_answer))]
 #[unsafe(no_mangle)]
 pub extern "C" fn bkm_read_doubles(d: Doubles) -> UnitsAnswer
     ensures answer { result ≡ units_answer 48 d }
