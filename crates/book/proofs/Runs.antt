@@ -19,7 +19,7 @@ use Rattle.book.specs.declared.Institute.{Institute}
 use Rattle.book.specs.declared.Institute.TheVariants.{First, Second}
 use Rattle.book.specs.declared.Rejection.TheVariants.{Denied}
 use Rattle.book.specs.declared.Settled.{Settled}
-use Rattle.book.specs.Book.{balances, balance, charged, is_allowance, opened}
+use Rattle.book.specs.Book.{balances, balance, charged, is_allowance, opened_book, opened}
 use Rattle.book.specs.Call.{Operation, Call, caller_of, answer_to, cost, settled, paid, charge, outcome_for, outcome}
 use Rattle.book.specs.Run.{run, book_after, same, is_by, calls_of, entries_of, is_answered, cost_in, total, Conserved, InAllowance, LeftAlone, Alike, Undisturbed}
 use Rattle.book.proofs.Calls.{costs, charge_keeps}
@@ -151,7 +151,7 @@ run_falls p (c ∷ cs) b =
     record { low = λ h. g.low (f.low h); high = ⩽_trans g.high f.high }
 
 opened_low : (p : Institute) (first second : ℤ) → pos 0 ⩽ balance p (opened first second).book
-unfolding opened
+unfolding opened opened_book
 opened_low p first second = either (is_allowance first)
     (λ e. either (is_allowance second)
     (λ d. rw (e, d) (both p (between_true e).0 (between_true d).0))

@@ -1,5 +1,5 @@
 -- Two balances and their opening (02, E10).
-use Rattle.std.specs.Prelude.{Bool, cond, ◌&&◌, ℤ, pos, ◌-ℤ◌}
+use Rattle.std.specs.Prelude.{Bool, cond, ◌&&◌, ℤ, pos, ◌-ℤ◌, Option, Some, None}
 use Rattle.word.specs.Compare.{between}
 use Rattle.book.specs.declared.Book.{Book}
 use Rattle.book.specs.declared.Opening.{Opening}
@@ -29,8 +29,14 @@ denial_number = pos 10
 abbrev pub is_allowance : ℤ → Bool
 is_allowance a = between (pos 0) (pos 1000000) a
 
--- "10, for an allowance out of range at opening"; "a book refused at opening has two zero balances"
+-- a book with two allowances, where both are in range
+unfoldable pub opened_book : ℤ → ℤ → Option Book
+opened_book first second = cond (is_allowance first && is_allowance second) (Some (balances first second)) None
+
+-- what C is handed of it: "10, for an allowance out of range at opening"; "a book refused at opening has two zero balances"
+abbrev pub opening_record : Option Book → Opening
+opening_record (Some b) = record { refusal = pos 0; book = b }
+opening_record None = record { refusal = denial_number; book = balances (pos 0) (pos 0) }
+
 unfoldable pub opened : ℤ → ℤ → Opening
-opened first second = cond (is_allowance first && is_allowance second)
-    (record { refusal = pos 0; book = balances first second })
-    (record { refusal = denial_number; book = balances (pos 0) (pos 0) })
+opened first second = opening_record (opened_book first second)

@@ -46,10 +46,20 @@ abbrev pub cost : Operation → ℤ
 cost (Exp n ex ey sx sy) = n
 cost (Log n x y) = n -ℤ pos 2
 
+-- "Refused: 10"; a refusal of EXP or LOG keeps its number
+abbrev pub rejection_number : Rejection → ℤ
+rejection_number (Refused r) = refusal_number r
+rejection_number Denied = denial_number
+
 -- ---- what it gives
 -- figures, or why there are none
 abbrev pub Reply : Type 0
 Reply = Result Figures Rejection
+
+-- what EXP or LOG answered
+abbrev pub given : Answer → Reply
+given (Ok f) = Ok f
+given (Err r) = Err (Refused r)
 
 abbrev pub settled : Reply → Book → Settled
 settled r b = record { reply = r; book = b }
@@ -61,7 +71,7 @@ paid who cost f b = cond (lt_z (balance who b) cost) (settled (Err Denied) b) (s
 -- "a refused call is free", and "leaves the book as it found it"
 abbrev pub charge : Institute → ℤ → Answer → Book → Settled
 charge who cost (Ok f) b = paid who cost f b
-charge who cost (Err r) b = settled (Err (Refused r)) b
+charge who cost (Err r) b = settled (given (Err r)) b
 
 -- "10 .. for a caller that is neither institute (before all else in a call)"
 abbrev pub outcome_for : Option Institute → Operation → Book → Settled
@@ -74,8 +84,7 @@ outcome c b = outcome_for (caller_of c.caller) c.operation b
 -- "the answer record": that of EXP or LOG, or 10 and zeros
 unfoldable pub reply_record : Reply → List ℤ
 reply_record (Ok f) = numbers (pos 0) f
-reply_record (Err (Refused r)) = numbers (refusal_number r) no_figures
-reply_record (Err Denied) = numbers denial_number no_figures
+reply_record (Err e) = numbers (rejection_number e) no_figures
 
 -- what is said of an answer, of a reply that gives one
 abbrev pub OfAnswer : (Answer → Type 0) → Reply → Type 0

@@ -7,9 +7,9 @@ ghost use Rattle.algebra.specs.Order.{◌⩽◌};
 ghost use Rattle.answer.specs.Remainder.{RemainderBelow};
 ghost use Rattle.exponential.specs.Answer.{Close as ExpClose};
 ghost use Rattle.logarithm.specs.Answer.{Close as LogClose};
-ghost use Rattle.book.specs.Book.{balance, charged, opened};
+ghost use Rattle.book.specs.Book.{balance, charged, opened_book, opening_record};
 ghost use Rattle.book.specs.declared.Rejection.TheVariants.{Denied};
-ghost use Rattle.book.specs.Call.{caller_of, settled, paid, charge, outcome, exp_by, log_by, OfAnswer, reply_record};
+ghost use Rattle.book.specs.Call.{caller_of, rejection_number, settled, paid, charge, outcome, exp_by, log_by, OfAnswer, reply_record};
 ghost use Rattle.book.specs.Code.{Covered, Payable};
 
 use answer::{Figures, Refusal};
@@ -26,7 +26,7 @@ pub struct Book {
     pub second: i64,
 }
 
-// The refusal number or 0, and the book.
+// An opening for C: 10 or 0, and the book.
 #[repr(C)]
 #[derive(Clone, Copy)]
 pub struct Opening {
@@ -50,6 +50,17 @@ pub enum Rejection {
     Denied,
 }
 
+impl From<Rejection> for i64 {
+    ghost from_gives = { λ r n. n ≡ rejection_number r };
+
+    fn from(r: Rejection) -> i64 {
+        match r {
+            Rejection::Refused(r) => i64::from(r),
+            Rejection::Denied => 10,
+        }
+    }
+}
+
 #[derive(Clone, Copy)]
 pub struct Settled {
     pub reply: Result<Figures, Rejection>,
@@ -59,48 +70,56 @@ pub struct Settled {
 // ---- the balances
 
 // A book with two allowances, each from 0 to MOST.
-#[tactic(auto, unfolding(crate::specs::Book::opened))]
-pub fn open(first: i64, second: i64) -> Opening
-    ensures { result ≡ opened first second }
+#[tactic(auto, unfolding(crate::specs::Book::opened_book))]
+pub fn open(first: i64, second: i64) -> Option<Book>
+    ensures { result ≡ opened_book first second }
 {
-    if point::is_between(0, MOST, first) && point::is_between(0, MOST, second) {
-        return Opening {
-            refusal: 0,
-            book: Book { first, second },
-        };
-    }
-    Opening {
-        refusal: 10,
-        book: Book {
-            first: 0,
-            second: 0,
-        },
+    let both = point::is_between(0, MOST, first) && point::is_between(0, MOST, second);
+    both.then_some(Book { first, second })
+}
+
+impl From<Option<Book>> for Opening {
+    ghost from_gives = { λ b o. o ≡ opening_record b };
+
+    fn from(b: Option<Book>) -> Opening {
+        match b {
+            Some(book) => Opening { refusal: 0, book },
+            None => Opening {
+                refusal: i64::from(Rejection::Denied),
+                book: Book {
+                    first: 0,
+                    second: 0,
+                },
+            },
+        }
     }
 }
 
-fn balance(book: Book, who: Institute) -> i64
-    ensures { result ≡ balance who book }
-{
-    match who {
-        Institute::First => book.first,
-        Institute::Second => book.second,
+impl Book {
+    fn balance(self, who: Institute) -> i64
+        ensures { result ≡ balance who self }
+    {
+        match who {
+            Institute::First => self.first,
+            Institute::Second => self.second,
+        }
     }
-}
 
-// The book after one of the two has paid.
-fn charged(book: Book, who: Institute, cost: i64) -> Book
-    requires { Covered who cost book }
-    ensures { result ≡ charged who cost book }
-{
-    match who {
-        Institute::First => Book {
-            first: book.first - cost,
-            ..book
-        },
-        Institute::Second => Book {
-            second: book.second - cost,
-            ..book
-        },
+    // The book after one of the two has paid.
+    fn charged(self, who: Institute, cost: i64) -> Book
+        requires { Covered who cost self }
+        ensures { result ≡ charged who cost self }
+    {
+        match who {
+            Institute::First => Book {
+                first: self.first - cost,
+                ..self
+            },
+            Institute::Second => Book {
+                second: self.second - cost,
+                ..self
+            },
+        }
     }
 }
 
@@ -132,12 +151,12 @@ fn pay(book: Book, who: Institute, cost: i64, figures: Figures) -> Settled
     requires { pos 0 ⩽ cost }
     ensures { result ≡ paid who cost figures book }
 {
-    if balance(book, who) < cost {
+    if book.balance(who) < cost {
         return denied(book);
     }
     Settled {
         reply: Ok(figures),
-        book: charged(book, who, cost),
+        book: book.charged(who, cost),
     }
 }
 
@@ -192,7 +211,6 @@ pub fn record(reply: Result<Figures, Rejection>) -> [i64; 8]
 {
     match reply {
         Ok(figures) => answer::record(Ok(figures)),
-        Err(Rejection::Refused(r)) => answer::record(Err(r)),
-        Err(Rejection::Denied) => [10, 0, 0, 0, 0, 0, 0, 0],
+        Err(r) => [i64::from(r), 0, 0, 0, 0, 0, 0, 0],
     }
 }

@@ -1,8 +1,6 @@
 -- Why: the laws of writing, and what serves the code.
 --   Words     eight bytes of a number are read back
 --   Written, Lines, Put, Fitting   the writer's way
---   Either    ways that have met, and tests that come out alike
-pub mod Either
 pub mod Written
 pub mod Lines
 pub mod Words

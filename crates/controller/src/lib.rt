@@ -76,11 +76,12 @@ pub extern "C" fn bkm_log(n: i64, x: i64, y: i64, out: &mut [u8]) -> i64
 }
 
 // A book for two institutes, with their allowances.
+#[tactic(auto, unfolding(book::specs::Book::opened))]
 #[unsafe(no_mangle)]
 pub extern "C" fn bkm_book_open(first: i64, second: i64) -> Opening
     ensures { result ≡ opened first second }
 {
-    book::open(first, second)
+    Opening::from(book::open(first, second))
 }
 
 // What a call through the book gives: the record of an answer and the new book.
@@ -91,13 +92,14 @@ pub struct BookAnswer {
     pub book: Book,
 }
 
-fn book_answer(s: Settled) -> BookAnswer
-    ensures answer { result.«record» ≡ reply_record s.reply }
-    ensures book { result.book ≡ s.book }
-{
-    BookAnswer {
-        record: book::record(s.reply),
-        book: s.book,
+impl From<Settled> for BookAnswer {
+    ghost from_gives = { λ s a. (a.«record» ≡ reply_record s.reply) × (a.book ≡ s.book) };
+
+    fn from(s: Settled) -> BookAnswer {
+        BookAnswer {
+            record: book::record(s.reply),
+            book: s.book,
+        }
     }
 }
 
@@ -121,7 +123,7 @@ pub extern "C" fn bkm_book_exp(
         Point { x: ex, y: ey },
         Point { x: sx, y: sy },
     );
-    book_answer(s)
+    BookAnswer::from(s)
 }
 
 #[unsafe(no_mangle)]
@@ -130,10 +132,11 @@ pub extern "C" fn bkm_book_log(book: Book, caller: i64, n: i64, x: i64, y: i64) 
     ensures book { result.book ≡ (outcome (log_by caller n x y) book).book }
 {
     let s = book::log(book, caller, n, Point { x, y });
-    book_answer(s)
+    BookAnswer::from(s)
 }
 
 // LOG's two parts as doubles, each over 2^48.
+#[tactic(auto, unfolding(doubles::specs::Record::doubles_answer))]
 #[unsafe(no_mangle)]
 pub extern "C" fn bkm_log_doubles(n: i64, x: i64, y: i64) -> DoublesAnswer
     ensures answer { result ≡ doubles_answer 48 (log_answer n x y) }
@@ -143,6 +146,7 @@ pub extern "C" fn bkm_log_doubles(n: i64, x: i64, y: i64) -> DoublesAnswer
 }
 
 // Two such doubles read back as whole numbers of units.
+#[tactic(auto, unfolding(doubles::specs::Record::units_answer))]
 #[unsafe(no_mangle)]
 pub extern "C" fn bkm_read_doubles(d: Doubles) -> UnitsAnswer
     ensures answer { result ≡ units_answer 48 d }

@@ -37,3 +37,4 @@ pub mod Divided
 pub mod Back
 pub mod Ranges
 pub mod Zero
+pub mod Begun

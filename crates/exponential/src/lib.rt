@@ -58,35 +58,22 @@ pub fn exp(n: i64, exponent: Point, start: Point) -> Result<Figures, Refusal>
     ensures close { Close n exponent.x exponent.y start.x start.y result }
     ensures remainder { RemainderBelow 48 n result }
 {
-    test(n, exponent, start)?;
-    let steps = n as usize;
-    let given = reduction::reduce(exponent, start);
-    let s = given.start;
-    let e = given.exponent;
-    let end = iteration::run::<Exp>(0, steps, State { point: s, sum: e });
-    let last = end.point;
-    let left = end.sum;
-    // part by part, so that nothing is copied in between
-    let x = last.x;
-    let y = last.y;
-    let left_x = left.x;
-    let left_y = left.y;
-    let binary_exponent = given.binary_exponent;
-    let error_bound = error_bound(steps, s);
+    let f = begin(n, exponent, start)?;
+    let begun = State {
+        point: f.value,
+        sum: f.remainder,
+    };
+    let end = iteration::run::<Exp>(0, n as usize, begun);
     Ok(Figures {
-        value: Point { x, y },
-        binary_exponent,
-        quadrant: 0,
-        error_bound,
-        remainder: Point {
-            x: left_x,
-            y: left_y,
-        },
+        value: end.point,
+        remainder: end.sum,
+        ..f
     })
 }
 
 // EXP before its first step, for a second engine: the start and the exponent that the steps are given stand where the value and the remainder
-// will.
+// will. Inlined, so that its figures do not go through memory on their way to the steps.
+#[inline(always)]
 pub fn begin(n: i64, exponent: Point, start: Point) -> Result<Figures, Refusal>
     ensures { result ≡ exp_beginning n exponent.x exponent.y start.x start.y }
 {

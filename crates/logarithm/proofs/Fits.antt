@@ -4,11 +4,10 @@ use mathlib.Core.List.{[], ◌∷◌}
 use Prim.Native.Nat.{ℕ, ◌+◌, ◌-◌, ◌^◌, ◌≤◌, ◌<◌}
 use native.Mathlib.Nat.{pow-zero}
 use native.Mathlib.Omega.{arith}
-use lib.Dec.{T}
 use lib.IntN.{ℤ, pos, negsuc, nat_abs, ◌+ℤ◌, ◌-ℤ◌, ◌*ℤ◌, *ℤ_comm}
-use lib.Signed.{shr_z, non_neg}
+use lib.Signed.{shr_z}
 use mir.Syntax.{w64}
-use mir.Val.{Fits as WordFits, SFits}
+use mir.Val.{SFits}
 use Rattle.algebra.specs.Gauss.{𝔾, iᵍ, conj, ◌*ᵍ◌, ιᵍ, two}
 use Rattle.algebra.specs.Order.{◌⩽◌}
 use Rattle.algebra.specs.Size.{Size, Parts}
@@ -60,10 +59,6 @@ pub parts_i : {z : 𝔾} {b : ℤ} → Parts z b → Parts (iᵍ *ᵍ z) b
 parts_i {z} {b} h = subst (λ w. Parts w b) (sym (i_mul z)) (record { re = size_neg h.im; im = h.re })
 
 -- ---- the length in bits
-pub cast_fits : (x : ℤ) → pos 1 ⩽ x → SFits w64 x → T (non_neg x) × WordFits w64 (nat_abs x)
-cast_fits (pos n) h f = (tt, record { fits = omega (arith, f.sfits) })
-cast_fits (negsuc n) h f = absurd h.le
-
 pub nat_abs_pos : (x : ℤ) → pos 1 ⩽ x → 1 ≤ nat_abs x
 nat_abs_pos (pos n) h = pos_inj_le h
 nat_abs_pos (negsuc n) h = absurd h.le

@@ -7,7 +7,6 @@ use Prim.Native.Nat.{ℕ, zero, suc, ◌+◌, ◌*◌, ◌-◌, ◌^◌, ◌≤�
 use native.Mathlib.Nat.{pow-zero, pow-suc, pow-succ', zero-add, add-zero, mul_comm, not-suc-le-zero, le_antisymm}
 use native.Mathlib.Omega.{arith}
 use lib.Dec.{T, ltb, ltb→lt, nltb→le}
-use lib.Count.{count_leading_zeros, leading_top}
 use lib.IntN.{ℤ, pos, negsuc, neg_ℤ, nat_abs, ◌+ℤ◌, ◌-ℤ◌, ◌*ℤ◌}
 use Rattle.algebra.specs.Gauss.{𝔾, gi, ιᵍ, ◌-ᵍ◌, ◌*ᵍ◌, two}
 use Rattle.algebra.specs.Order.{◌⩽◌}
@@ -56,11 +55,10 @@ bits_below b c h g = two_reflects b c (omega (arith, pow-suc 2 c, h.half, g.abov
 pub bits_unique : {m : ℕ} (b c : ℕ) → Bits m b → Bits m c → b ≡ c
 bits_unique b c h g = le_antisymm (bits_below b c h g) (bits_below c b g h)
 
--- it is what the leading zeros of a word leave
-pub bits_zeros : (k m : ℕ) → 1 ≤ m → m < 2 ^ k → k - count_leading_zeros k m ≡ bits m
-bits_zeros k m h l = let t = leading_top k m h l in
-    let same : k - count_leading_zeros k m ≡ suc t.0 = omega (arith, t.1) in
-    same ∙ sym (bits_unique (bits m) (suc t.0) (bits_law m h) (record { above = t.3; half = omega (arith, pow-suc 2 t.0, t.2) }))
+-- it is one more than the logarithm
+pub bits_log : (k m : ℕ) → 1 ≤ m → 2 ^ k ≤ m → m < 2 * 2 ^ k → k + 1 ≡ bits m
+bits_log k m h low high = omega arith ∙ sym (bits_unique (bits m) (suc k) (bits_law m h)
+    (record { above = omega (arith, pow-suc 2 k, high); half = omega (arith, pow-suc 2 k, low) }))
 
 -- ---- wx < 2^(F+k) ≤ 2 wx, and F + k is the one number with that
 pub record Length (x : ℤ) (b : ℕ) : Type 0 where

@@ -47,25 +47,15 @@ fn accepted(n: usize, p: Point) -> Figures
     ensures { result ≡ figures_of n p }
 {
     let t = reduction::turned(p);
-    let w = t.point;
-    let quadrant = t.quadrant;
-    let m = w.x;
+    let m = t.point.x;
     let b = reduction::bit_length(m);
-    let s = iteration::run::<Log>(2, n, reduction::begun(w, b));
-    let sum = s.sum;
-    let last = s.point;
-    // part by part, so that nothing is copied in between
-    let x = sum.x;
-    let y = sum.y;
-    let remainder = less_one(last);
-    let binary_exponent = (b as i64) - 48;
-    let error_bound = error_bound(n, m);
+    let end = iteration::run::<Log>(2, n, reduction::begun(t.point, b));
     Figures {
-        value: Point { x, y },
-        binary_exponent,
-        quadrant,
-        error_bound,
-        remainder,
+        value: end.sum,
+        binary_exponent: (b as i64) - 48,
+        quadrant: t.quadrant,
+        error_bound: error_bound(n, m),
+        remainder: less_one(end.point),
     }
 }
 

@@ -83,8 +83,7 @@ pub fn bit_length(x: i64) -> usize
     requires { pos 1 ⩽ x }
     ensures { result ≡ bits (nat_abs x) }
 {
-    let zeros = u64::leading_zeros(x as u64);
-    64 - (zeros as usize)
+    x.ilog2() as usize + 1
 }
 
 // w over 2^(b - 48), b being the length of its x: exactly, or by floor.

@@ -4,6 +4,7 @@ use mathlib.Core.List.{List, [], ◌∷◌, ◌++◌, append-nil, append_assoc}
 use mathlib.Core.Logic.{◌⊎◌, inl, inr}
 use Prim.Native.Nat.{ℕ, suc, ◌-◌, ◌<◌}
 use native.Mathlib.Omega.{arith}
+use native.Mathlib.Nat.{lt_irrefl}
 use lib.Dec.{eqb}
 use lib.IntN.{ℤ}
 use lib.ListN.{length, get_or}
@@ -20,10 +21,7 @@ use Rattle.merge.proofs.Turn.{merge_rest, one_sheet}
 -- ---- the lines of a sheet, each with its newline, are the sheet, and a newline behind a last line without one
 begun_newline : (s p : List ℕ) → 0 < length s → get_or s (length s - 1) 0 ≡ 10 → text (lines_from p s) ≡ p ++ s
 unfolding text lines_from last_line
-begun_newline [] p h e = absurd (none h)
-  where
-    none : 0 < 0 → ⊥
-    none h = omega arith
+begun_newline [] p h e = absurd (lt_irrefl 0 h)
 begun_newline (c ∷ []) p h e = rw (eq-eqb c 10 e, e)
 begun_newline (c ∷ d ∷ cs) p h e =
     let i : suc (suc (length cs)) - 1 ≡ suc (suc (length cs) - 1) = omega arith in
@@ -33,10 +31,7 @@ begun_newline (c ∷ d ∷ cs) p h e =
 
 begun_other : (s p : List ℕ) → 0 < length s → (get_or s (length s - 1) 0 ≡ 10 → ⊥) → text (lines_from p s) ≡ p ++ (s ++ 10 ∷ [])
 unfolding text lines_from last_line
-begun_other [] p h n = absurd (none h)
-  where
-    none : 0 < 0 → ⊥
-    none h = omega arith
+begun_other [] p h n = absurd (lt_irrefl 0 h)
 begun_other (c ∷ []) [] h n = rw (ne_eqb c 10 n)
 begun_other (c ∷ []) (x ∷ p) h n = rw (ne_eqb c 10 n) (append_assoc (x ∷ p) (c ∷ []) (10 ∷ []))
 begun_other (c ∷ d ∷ cs) p h e =

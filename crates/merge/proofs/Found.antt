@@ -1,5 +1,5 @@
 -- The first line of a sheet and what is behind it, as the search for a newline finds them.
-use mathlib.Core.Path.{◌≡◌, ap, ◌∙◌}
+use mathlib.Core.Path.{◌≡◌, refl, ap, ◌∙◌}
 use mathlib.Core.List.{List}
 use Prim.Native.Nat.{ℕ, ◌+◌, ◌-◌, ◌≤◌, min}
 use native.Mathlib.Omega.{arith}
@@ -21,27 +21,30 @@ pub front_none : (last : ℤ) (s : List ℕ) → length s ≡ 0 → front last (
 unfolding front
 front_none last s e = rw (no_line s e)
 
-module _ (s : List ℕ) (e : ℕ) (found : e ≡ find_byte 10 s 0) where
-  pub within : e ≤ length s
-  within = (ended (omega arith) found).high
+module _ (s : List ℕ) where
+  -- the newline that is searched for, or the end
+  module _ {e : ℕ} (found : e ≡ find_byte 10 s 0) where
+    pub within : e ≤ length s
+    within = (ended (omega arith) found).high
 
-  at : e ≡ before 10 s
-  at = omega (arith, found)
+    pub first_is : take e s ≡ first_line s
+    unfolding first_line
+    first_is = ap (λ n. take n s) (omega (arith, found))
 
-  pub first_is : take e s ≡ first_line s
+    pub first_length : length (take e s) ≡ e
+    first_length = length-take-le e s within
+
+  pub length_first : length (first_line s) ≡ before 10 s
   unfolding first_line
-  first_is = ap (λ n. take n s) at
+  length_first = length-take-le (before 10 s) s (omega (arith, within {e = find_byte 10 s 0} refl))
 
-  pub first_length : length (take e s) ≡ e
-  first_length = length-take-le e s within
-
-  pub front_is : (last : ℤ) → (length s ≡ 0 → ⊥) → front last (lines s) ≡ front_line last (take e s)
-  unfolding front
-  front_is last n = rw (some_line s n, at)
+  pub front_is : (last : ℤ) → (length s ≡ 0 → ⊥) → front last (lines s) ≡ front_line last (first_line s)
+  unfolding front first_line
+  front_is last n = rw (some_line s n)
 
   part : (k : ℕ) → take (length s - k) (drop k s) ≡ drop k s
   part k = take_all (length s - k) (drop k s) (simp length-drop (le_refl (length s - k)))
 
-  pub behind_from : {n : ℕ} → n ≡ min (e + 1) (length s) → take (length s - n) (drop n s) ≡ behind s
+  pub behind_from : {n : ℕ} → n ≡ min (length (first_line s) + 1) (length s) → take (length s - n) (drop n s) ≡ behind s
   unfolding behind
-  behind_from {n} h = part n ∙ rw (h, drop_min, add-one, at)
+  behind_from {n} h = part n ∙ rw (h, drop_min, add-one, length_first)

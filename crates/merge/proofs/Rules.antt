@@ -17,7 +17,7 @@ use Rattle.scan.proofs.Fields.{same_list}
 use Rattle.text.specs.Line.{read_line, serial_of}
 use Rattle.merge.specs.declared.Front.{Front}
 use Rattle.merge.specs.declared.Choice.{Choice}
-use Rattle.merge.specs.Merge.{refusal_number, by_number, front_line, by_serial, choice, Merge, stopped, ◌then◌, act, alone, follow, merge_from}
+use Rattle.merge.specs.Merge.{merge_refusal, by_number, front_line, by_serial, choice, Merge, stopped, ◌then◌, act, alone, follow, merge_from}
 use Rattle.merge.specs.declared.Front.TheVariants.{Malformed, Fallen, Risen}
 use Rattle.merge.specs.declared.Choice.TheVariants.{Done, First, Passed, Second, Refused}
 use Rattle.merge.specs.declared.MergeError.TheVariants as err
@@ -98,7 +98,7 @@ eight = inr (inr refl)
 
 abbrev Told : ℤ → ℤ → List ℕ → List ℕ → Choice → Type 0
 Told j k a b Done = ⊥
-Told j k a b (Refused e) = Stops (refusal_number e)
+Told j k a b (Refused e) = Stops (merge_refusal e)
 Told j k a b (First n) = Numbered a n × ((j ⋖ n) × Above n b)
 Told j k a b (Passed n) = Numbered a n × ((j ⋖ n) × (a ≡ b))
 Told j k a b (Second n) = Numbered b n × ((k ⋖ n) × Above n a)

@@ -5,7 +5,7 @@ use mathlib.Core.List.{List}
 use Prim.Native.Nat.{ℕ, ◌≤◌}
 use native.Mathlib.Omega.{arith}
 use lib.IntN.{ℤ}
-use lib.ListN.{length, take}
+use lib.ListN.{length}
 use lib.Seq.{slice, take-take}
 use Rattle.scan.specs.Decimal.{read_number}
 use Rattle.scan.specs.Find.{before, find_byte}
@@ -14,11 +14,12 @@ use Rattle.text.proofs.Serial.{first_number}
 use Rattle.stream.specs.Machine.{lines}
 use Rattle.merge.specs.declared.Front.{Front}
 use Rattle.merge.specs.Merge.{front}
+use Rattle.merge.specs.Call.{first_line}
 use Rattle.merge.specs.Code.{Passes}
 use Rattle.merge.proofs.Rules.{Numbered, InFront, malformed, fallen, risen, in_front_lem, front_risen, merges}
 use Rattle.merge.proofs.Laws.{Rising, end, more, both_rose}
 use Rattle.merge.proofs.Turn.{merge_rest}
-use Rattle.merge.proofs.Found.{front_is, first_length}
+use Rattle.merge.proofs.Found.{front_is, length_first}
 use Rattle.merge.specs.declared.Front.TheVariants.{Risen}
 
 -- ---- where nothing stops the merge, neither line in front does
@@ -38,23 +39,19 @@ pub record Sure (last : ℤ) (s : List ℕ) (r : Option ℤ) : Type 0 where
   pub «read» : r ≡ Some serial
 
 module _ (s : List ℕ) (last : ℤ) (n : length s ≡ 0 → ⊥) where
-  l : List ℕ
-  l = take (find_byte 10 s 0) s
-
-  tab : {z : ℤ} → Numbered l z → (read_number (slice 0 (find_byte 9 s 0) s) ≡ Some z)
-  unfolding l
+  tab : {z : ℤ} → Numbered (first_line s) z → (read_number (slice 0 (find_byte 9 s 0) s) ≡ Some z)
+  unfolding first_line
   tab {z} e =
-      let f = first_number l z (ended (omega arith) refl) e.is in
-      let same : before 9 s ≡ before 9 l = before_take 9 (find_byte 10 s 0) s (omega (arith, f.1)) in
-      let short : find_byte 9 l 0 ≤ find_byte 10 s 0 = omega (arith, f.1, first_length s (find_byte 10 s 0) refl) in
-      let at : find_byte 9 s 0 ≡ find_byte 9 l 0 = omega (arith, same) in
-      rw (at, ← take-take (find_byte 9 l 0) (find_byte 10 s 0) s short) f.0
+      let f = first_number (first_line s) z (ended (omega arith) refl) e.is in
+      let same : before 9 s ≡ before 9 (first_line s) = before_take 9 (before 10 s) s (omega (arith, f.1)) in
+      let short : find_byte 9 (first_line s) 0 ≤ before 10 s = omega (arith, f.1, length_first s) in
+      let at : find_byte 9 s 0 ≡ find_byte 9 (first_line s) 0 = omega (arith, same) in
+      rw (at, ← take-take (find_byte 9 (first_line s) 0) (before 10 s) s short) f.0
 
   pub sure : Passes (front last (lines s)) → Sure last s (read_number (slice 0 (find_byte 9 s 0) s))
-  unfolding l
-  sure p = go (in_front_lem last l) (front_is s (find_byte 10 s 0) refl last n) p
+  sure p = go (in_front_lem last (first_line s)) (front_is s last n) p
     where
-      go : {f : Front} → InFront last l f → front last (lines s) ≡ f → Passes (front last (lines s)) → Sure last s (read_number (slice 0 (find_byte 9 s 0) s))
+      go : {f : Front} → InFront last (first_line s) f → front last (lines s) ≡ f → Passes (front last (lines s)) → Sure last s (read_number (slice 0 (find_byte 9 s 0) s))
       go (malformed e) is p = absurd (rw is at p)
       go (fallen e h) is p = absurd (rw is at p)
       go (risen {n = z} e h) is p = record { serial = z; is = is; «read» = tab e }

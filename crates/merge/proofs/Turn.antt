@@ -17,7 +17,7 @@ use Rattle.stream.proofs.Lines.{no_line, some_line}
 use Rattle.merge.specs.declared.Front.{Front}
 use Rattle.merge.specs.declared.Choice.{Choice}
 use Rattle.merge.specs.declared.MergeError.{MergeError}
-use Rattle.merge.specs.Merge.{refusal_number, front_line, front, choice, Merge, stopped, ◌then◌, act, alone, follow, merge_from}
+use Rattle.merge.specs.Merge.{merge_refusal, front_line, front, choice, Merge, stopped, ◌then◌, act, alone, follow, merge_from}
 use Rattle.merge.specs.Call.{first_line, behind, unread}
 use Rattle.merge.specs.declared.Front.TheVariants.{End, Malformed, Fallen, Risen}
 use Rattle.merge.specs.declared.Choice.TheVariants.{Done, First, Passed, Second, Refused}
@@ -128,15 +128,6 @@ less : (s : List ℕ) → 0 < length s → length (behind s) < length s
 unfolding behind
 less s h = rw length-drop (omega arith)
 
--- a step, from a choice on: behind the first sheet's line, written or passed by, or behind the second's
-module _ {c : Choice} {n : ℤ} {r : List ℕ} (s t : List ℕ) where
-  pub read_first : (c ≡ First n) ⊎ (c ≡ Passed n) → r ≡ unread c s t → r ≡ behind s
-  read_first (inl d) p = rw d at p
-  read_first (inr d) p = rw d at p
-
-  pub read_second : c ≡ Second n → r ≡ unread c s t → r ≡ behind t
-  read_second d p = rw d at p
-
 -- ---- THE REST to merge: of s and t, behind lines of the serials j and k, with the lines in front as the code holds them
 pub record Left (s t : List ℕ) (f g : Front) : Type 0 where
   pub j : ℤ
@@ -150,16 +141,19 @@ rest {s} {t} l = merge_rest l.j l.k s t
 abbrev pub whole : {a b : List ℕ} {f g : Front} → f ≡ front (pos 0) (lines a) → g ≡ front (pos 0) (lines b) → Left a b f g
 whole e h = record { j = pos 0; k = pos 0; first_front = e; second_front = h }
 
--- a serial as the code holds it
-pub held : (n : ℤ) (ls : List (List ℕ)) {f : Front} → SFits w64 n → f ≡ front (to_z w64 (of_z w64 n)) ls → f ≡ front n ls
-held n ls h e = rw (back h) at e
-
 module _ {s t : List ℕ} {f g : Front} (l : Left s t f g) where
   abbrev pub behind_first : (n : ℤ) (r : List ℕ) {f' : Front} → f' ≡ front n (lines r) → Left r t f' g
   behind_first n r h = record { j = n; k = l.k; first_front = h; second_front = l.second_front }
 
   abbrev pub behind_second : (n : ℤ) (r : List ℕ) {g' : Front} → g' ≡ front n (lines r) → Left s r f g'
   behind_second n r h = record { j = l.j; k = n; first_front = l.first_front; second_front = h }
+
+  -- with the line in front read behind a serial as the code holds it
+  abbrev pub read_behind_first : (n : ℤ) (r : List ℕ) {f' : Front} → SFits w64 n → f' ≡ front (to_z w64 (of_z w64 n)) (lines r) → Left r t f' g
+  read_behind_first n r h e = behind_first n r (rw (back h) at e)
+
+  abbrev pub read_behind_second : (n : ℤ) (r : List ℕ) {g' : Front} → SFits w64 n → g' ≡ front (to_z w64 (of_z w64 n)) (lines r) → Left s r f g'
+  read_behind_second n r h e = behind_second n r (rw (back h) at e)
 
   module _ {c : Choice} (e : c ≡ choice f g (same_bytes (first_line s) (first_line t))) where
     by : {d : Choice} → c ≡ d → rest l
@@ -170,44 +164,44 @@ module _ {s t : List ℕ} {f g : Front} (l : Left s t f g) where
     pub done : c ≡ Done → rest l ≡ stopped 0
     done d = by d
 
-    pub refused : {r : MergeError} → c ≡ Refused r → rest l ≡ stopped (refusal_number r)
+    pub refused : {r : MergeError} → c ≡ Refused r → rest l ≡ stopped (merge_refusal r)
     refused d = by d
 
     pub ended : (c ≡ Done) ⊎ ((r : MergeError) × (c ≡ Refused r)) → (r : ℕ) × (rest l ≡ stopped r)
     ended (inl d) = (0, done d)
-    ended (inr d) = (refusal_number d.0, refused d.1)
+    ended (inr d) = (merge_refusal d.0, refused d.1)
 
-    pub first : {n : ℤ} {r : List ℕ} → c ≡ First n → r ≡ behind s → rest l ≡ first_line s then merge_rest n l.k r t
-    first d p = rw p (by d)
+    pub first : {n : ℤ} {r : List ℕ} → c ≡ First n → r ≡ unread c s t → rest l ≡ first_line s then merge_rest n l.k r t
+    first d p = rw (p, d) (by d)
 
-    pub passed : {n : ℤ} {r : List ℕ} → c ≡ Passed n → r ≡ behind s → rest l ≡ merge_rest n l.k r t
-    passed d p = rw p (by d)
+    pub passed : {n : ℤ} {r : List ℕ} → c ≡ Passed n → r ≡ unread c s t → rest l ≡ merge_rest n l.k r t
+    passed d p = rw (p, d) (by d)
 
-    pub second : {n : ℤ} {r : List ℕ} → c ≡ Second n → r ≡ behind t → rest l ≡ first_line t then merge_rest l.j n s r
-    second d p = rw p (by d)
+    pub second : {n : ℤ} {r : List ℕ} → c ≡ Second n → r ≡ unread c s t → rest l ≡ first_line t then merge_rest l.j n s r
+    second d p = rw (p, d) (by d)
 
     reads : {d : Choice} → c ≡ d → Reads d (length (lines s)) (length (lines t))
     reads d = rw (← l.first_front, ← l.second_front, ← e, d) at (reads_lines (same_bytes (first_line s) (first_line t)) l.j l.k (lines s) (lines t))
 
-    pub first_less : {n : ℤ} {r : List ℕ} → c ≡ First n → r ≡ behind s → length r < length s
-    first_less d p = rw p (less s (some_bytes s (reads d)))
+    pub first_less : {n : ℤ} {r : List ℕ} → c ≡ First n → r ≡ unread c s t → length r < length s
+    first_less d p = rw (p, d) (less s (some_bytes s (reads d)))
 
-    pub passed_less : {n : ℤ} {r : List ℕ} → c ≡ Passed n → r ≡ behind s → length r < length s
-    passed_less d p = rw p (less s (some_bytes s (reads d)))
+    pub passed_less : {n : ℤ} {r : List ℕ} → c ≡ Passed n → r ≡ unread c s t → length r < length s
+    passed_less d p = rw (p, d) (less s (some_bytes s (reads d)))
 
-    pub second_less : {n : ℤ} {r : List ℕ} → c ≡ Second n → r ≡ behind t → length r < length t
-    second_less d p = rw p (less t (some_bytes t (reads d)))
+    pub second_less : {n : ℤ} {r : List ℕ} → c ≡ Second n → r ≡ unread c s t → length r < length t
+    second_less d p = rw (p, d) (less t (some_bytes t (reads d)))
 
     pub first_refusal : {n : ℤ} {r : List ℕ} → (c ≡ First n) ⊎ (c ≡ Passed n) → r ≡ unread c s t → (rest l).refusal ≡ (merge_rest n l.k r t).refusal
-    first_refusal (inl d) p = ap (λ (m : Merge). m.refusal) (first d (read_first s t (inl d) p))
-    first_refusal (inr d) p = ap (λ (m : Merge). m.refusal) (passed d (read_first s t (inr d) p))
+    first_refusal (inl d) p = ap (λ (m : Merge). m.refusal) (first d p)
+    first_refusal (inr d) p = ap (λ (m : Merge). m.refusal) (passed d p)
 
     pub second_refusal : {n : ℤ} {r : List ℕ} → c ≡ Second n → r ≡ unread c s t → (rest l).refusal ≡ (merge_rest l.j n s r).refusal
-    second_refusal d p = ap (λ (m : Merge). m.refusal) (second d (read_second s t d p))
+    second_refusal d p = ap (λ (m : Merge). m.refusal) (second d p)
 
     pub first_behind_less : {n : ℤ} {r : List ℕ} → (c ≡ First n) ⊎ (c ≡ Passed n) → r ≡ unread c s t → length r < length s
-    first_behind_less (inl d) p = first_less d (read_first s t (inl d) p)
-    first_behind_less (inr d) p = passed_less d (read_first s t (inr d) p)
+    first_behind_less (inl d) p = first_less d p
+    first_behind_less (inr d) p = passed_less d p
 
     pub second_behind_less : {n : ℤ} {r : List ℕ} → c ≡ Second n → r ≡ unread c s t → length r < length t
-    second_behind_less d p = second_less d (read_second s t d p)
+    second_behind_less d p = second_less d p

@@ -3,7 +3,7 @@ use Rattle.std.specs.Prelude.{Result, Ok, Err, Bool, cond, List, [], ◌∷◌, 
 use Rattle.scan.specs.Find.{before}
 use Rattle.merge.specs.declared.Choice.{Choice}
 use Rattle.merge.specs.declared.MergeError.{MergeError}
-use Rattle.merge.specs.Merge.{refusal_number, merge}
+use Rattle.merge.specs.Merge.{merge_refusal, merge}
 use Rattle.merge.specs.declared.Choice.TheVariants.{Done, First, Passed, Second, Refused}
 
 -- ---- A STEP: the bytes of the first line of a sheet, and those behind it
@@ -41,7 +41,7 @@ bytes_for a b out = cond (eqb (refusal_for a b out) 0) (text (merge a b).copied)
 -- the two figures of what the call gives: the refusal's number, or 0, and the count of bytes, 0 with a refusal
 abbrev pub refusal_of : {A : Type 0} → Result A MergeError → ℕ
 refusal_of (Ok n) = 0
-refusal_of (Err e) = refusal_number e
+refusal_of (Err e) = merge_refusal e
 
 abbrev pub count_of : Result ℕ MergeError → ℕ
 count_of (Ok n) = n

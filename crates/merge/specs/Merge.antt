@@ -12,11 +12,11 @@ use Rattle.merge.specs.declared.Choice.TheVariants.{Done, First, Passed, Second,
 use Rattle.merge.specs.declared.MergeError.TheVariants as err
 
 -- ---- THE REFUSALS: "a malformed line", too little room, "a falling or repeated number", "one number with two differing lines"
-abbrev pub refusal_number : MergeError → ℕ
-refusal_number err.Malformed = 5
-refusal_number err.NoRoom = 6
-refusal_number err.Fallen = 7
-refusal_number err.Differing = 8
+abbrev pub merge_refusal : MergeError → ℕ
+merge_refusal err.Malformed = 5
+merge_refusal err.NoRoom = 6
+merge_refusal err.Fallen = 7
+merge_refusal err.Differing = 8
 
 -- ---- THE LINE IN FRONT of what is left of a sheet, behind a line with the serial `last`: malformed, of "a falling or repeated number", or neither
 abbrev pub by_number : ℤ → Option ℤ → Front
@@ -67,7 +67,7 @@ abbrev pub ◌then◌ : List ℕ → Merge → Merge
 -- what a choice leads to: the merge goes on behind the first sheet's line, written or passed by, or behind the second's, written
 abbrev pub act : Choice → (ℤ → Merge) → (ℤ → Merge) → (ℤ → Merge) → Merge
 act Done first passed second = stopped 0
-act (Refused e) first passed second = stopped (refusal_number e)
+act (Refused e) first passed second = stopped (merge_refusal e)
 act (First n) first passed second = first n
 act (Passed n) first passed second = passed n
 act (Second n) first passed second = second n

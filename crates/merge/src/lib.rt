@@ -5,7 +5,7 @@ ghost use Rattle.std.specs.Prelude.{◌≡◌, [], ◌∷◌, ◌++◌, ◌+◌,
 ghost use Rattle.scan.specs.Fields.{same_bytes};
 ghost use Rattle.buffer.specs.Code.{Put};
 ghost use Rattle.stream.specs.Machine.{lines};
-ghost use Rattle.merge.specs.Merge.{refusal_number, front, by_serial, choice, merge};
+ghost use Rattle.merge.specs.Merge.{merge_refusal, front, by_serial, choice, merge};
 ghost use Rattle.merge.specs.Code.{InFrontIfPassing};
 ghost use Rattle.merge.specs.Call.{first_line, behind, unread, text, refusal_for, bytes_for, refusal_of, count_of};
 
@@ -25,7 +25,7 @@ pub enum MergeError {
 }
 
 impl From<MergeError> for i64 {
-    ghost from_gives = { λ e n. n ≡ pos (refusal_number e) };
+    ghost from_gives = { λ e n. n ≡ pos (merge_refusal e) };
 
     fn from(e: MergeError) -> i64 {
         match e {
@@ -66,6 +66,13 @@ pub enum Choice {
 
 // ---- one step
 
+// The first line of a sheet, without its newline.
+fn first_line(s: &[u8]) -> &[u8]
+    ensures { result.now ≡ first_line s.now }
+{
+    &s[..scan::find_byte(s, 0, b'\n')]
+}
+
 // The line in front of s, behind one with the serial `last`.
 pub fn read_front(s: &[u8], last: i64) -> Front
     ensures { result ≡ front last (lines s.now) }
@@ -73,9 +80,7 @@ pub fn read_front(s: &[u8], last: i64) -> Front
     if s.is_empty() {
         return Front::End;
     }
-    let end = scan::find_byte(s, 0, b'\n');
-    let line = text::read_line(&s[..end]);
-    match line.serial() {
+    match text::read_line(first_line(s)).serial() {
         None => Front::Malformed,
         Some(serial) if serial <= last => Front::Fallen,
         Some(serial) => Front::Risen(serial),
@@ -83,12 +88,11 @@ pub fn read_front(s: &[u8], last: i64) -> Front
 }
 
 // Whether two sheets have the same bytes in front, up to the first newline.
+#[tactic(auto, using(scan::proofs::Fields::same_is))]
 fn same_line(a: &[u8], b: &[u8]) -> bool
     ensures { result ≡ same_bytes (first_line a.now) (first_line b.now) }
 {
-    let e = scan::find_byte(a, 0, b'\n');
-    let f = scan::find_byte(b, 0, b'\n');
-    scan::same_bytes(a, 0, e, &b[..f])
+    first_line(a) == first_line(b)
 }
 
 // What to do where the lines in front of a and b have the serials m and n.
@@ -122,8 +126,7 @@ pub fn choose(a: &[u8], b: &[u8], f: Front, g: Front) -> Choice
 fn rest(s: &[u8]) -> &[u8]
     ensures { result.now ≡ behind s.now }
 {
-    let end = scan::find_byte(s, 0, b'\n');
-    &s[(end + 1).min(s.len())..]
+    &s[(first_line(s).len() + 1).min(s.len())..]
 }
 
 // THE STEP: the unread rest of whichever sheet it reads from; all of the first, where it reads no line.
@@ -147,8 +150,10 @@ fn decide<'a>(a: &'a [u8], b: &'a [u8]) -> Result<(), MergeError>
     let mut q = b;
     let mut f = read_front(p, 0);
     let mut g = read_front(q, 0);
+    // named, so that what is to be proved of the loop has a name too, whichever variables it changes
     'lines: loop {
         let c = choose(p, q, f, g);
+        // by reference: this Rattle fails on an arm of two patterns that take a number by value
         match &c {
             Choice::Done => return Ok(()),
             Choice::Refused(e) => return Err(*e),
@@ -181,8 +186,7 @@ fn put_first(s: &[u8], out: &mut [u8], at: usize) -> usize
     requires { at + length (first_line s.now) + 1 ≤ length out.old }
     ensures { Put out.old at (first_line s.now ++ 10 ∷ []) out.new result }
 {
-    let end = scan::find_byte(s, 0, b'\n');
-    put_line(&s[..end], out, at)
+    put_line(first_line(s), out, at)
 }
 
 // All lines of a sheet at once: a last line without its newline gets one.
@@ -219,6 +223,7 @@ fn write<'a>(a: &'a [u8], b: &'a [u8], out: &mut [u8]) -> usize
     let mut f = sure_front(p);
     let mut g = sure_front(q);
     let mut w: usize = 0;
+    // named as in `decide`
     'lines: while !p.is_empty() && !q.is_empty() {
         let c = choose(p, q, f, g);
         match c {

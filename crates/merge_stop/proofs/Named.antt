@@ -15,11 +15,11 @@ use Rattle.stream.specs.Machine.{lines}
 use Rattle.merge.specs.declared.Front.{Front}
 use Rattle.merge.specs.declared.Choice.{Choice}
 use Rattle.merge_stop.specs.declared.Stop.{Stop}
-use Rattle.merge.specs.Merge.{refusal_number, front_line, front, choice, Merge, stopped, ◌then◌, act, follow, merge_from, merge}
+use Rattle.merge.specs.Merge.{merge_refusal, front_line, front, choice, Merge, stopped, ◌then◌, act, follow, merge_from, merge}
 use Rattle.merge.specs.Call.{first_line, behind, unread}
 use Rattle.merge_stop.specs.Stop.{named, none, chosen, met, stop_from, stop}
 use Rattle.merge.proofs.Rules.{BySerial, below, above, twins, differ, by_serial_lem}
-use Rattle.merge.proofs.Turn.{hd, tl, one_sheet, lone_first, lone_second, front_line_lem, behind_lines, read_first, read_second, Left}
+use Rattle.merge.proofs.Turn.{hd, tl, one_sheet, lone_first, lone_second, front_line_lem, behind_lines, Left}
 use Rattle.merge.specs.declared.Front.TheVariants.{End, Malformed, Fallen, Risen}
 use Rattle.merge.specs.declared.Choice.TheVariants.{Done, First, Passed, Second, Refused}
 
@@ -64,11 +64,11 @@ module _ (h i : ℕ) {s t : List ℕ} {f g : Front} (l : Left s t f g) {c : Choi
   by d = rw (← l.first_front, ← l.second_front, ← e, d) at (turn h i l.j l.k s t)
 
   pub first : {n : ℤ} {r : List ℕ} → (c ≡ First n) ⊎ (c ≡ Passed n) → r ≡ unread c s t → stop_rest (h + 1) i n l.k r t ≡ stop_rest h i l.j l.k s t
-  first (inl d) p = rw (add-one, read_first s t (inl d) p) (sym (by d))
-  first (inr d) p = rw (add-one, read_first s t (inr d) p) (sym (by d))
+  first (inl d) p = rw (add-one, p, d) (sym (by d))
+  first (inr d) p = rw (add-one, p, d) (sym (by d))
 
   pub second : {n : ℤ} {r : List ℕ} → c ≡ Second n → r ≡ unread c s t → stop_rest h (i + 1) l.j n s r ≡ stop_rest h i l.j l.k s t
-  second d p = rw (add-one, read_second s t d p) (sym (by d))
+  second d p = rw (add-one, p, d) (sym (by d))
 
 -- ---- what is told of a stop from the h-th and the i-th line on, where the merge is refused with r
 record Told (h i : ℕ) (xs ys : List (List ℕ)) (r : ℕ) (s : Stop) : Type 0 where
@@ -107,7 +107,7 @@ module _ {h i : ℕ} (p : 0 < h) (q : 0 < i) where
   -- and a refusal names one
   abbrev Names : Front → Front → Choice → Type 0
   Names f g Done = Unit {0}
-  Names f g (Refused e) = let r = refusal_number e in 0 < named r f h + named r g i
+  Names f g (Refused e) = let r = merge_refusal e in 0 < named r f h + named r g i
   Names f g (First n) = Unit {0}
   Names f g (Passed n) = Unit {0}
   Names f g (Second n) = Unit {0}
@@ -150,7 +150,7 @@ module _ {h i : ℕ} (p : 0 < h) (q : 0 < i) where
             Told h i xs ys (act c (λ n. a then u n) u (λ n. b then v n)).refusal (chosen h i (front j xs) (front k ys) c x y)
         go Done e = told_none
         go (Refused r) e =
-            record { refusal = refl; some = inr e; first = named_there (refusal_number r) j xs h p; second = named_there (refusal_number r) k ys i q }
+            record { refusal = refl; some = inr e; first = named_there (merge_refusal r) j xs h p; second = named_there (merge_refusal r) k ys i q }
         go (First n) e = next-first n
         go (Passed n) e = next-first n
         go (Second n) e = next-second n

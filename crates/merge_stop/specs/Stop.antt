@@ -5,7 +5,7 @@ use Rattle.stream.specs.Machine.{lines}
 use Rattle.merge.specs.declared.Front.{Front}
 use Rattle.merge.specs.declared.Choice.{Choice}
 use Rattle.merge_stop.specs.declared.Stop.{Stop}
-use Rattle.merge.specs.Merge.{refusal_number, front_line, choice}
+use Rattle.merge.specs.Merge.{merge_refusal, front_line, choice}
 use Rattle.merge.specs.declared.Front.TheVariants.{End, Malformed, Fallen, Risen}
 use Rattle.merge.specs.declared.Choice.TheVariants.{Done, First, Passed, Second, Refused}
 
@@ -25,7 +25,7 @@ none = record { refusal = pos 0; first = 0; second = 0 }
 abbrev pub chosen : ℕ → ℕ → Front → Front → Choice → (ℤ → Stop) → (ℤ → Stop) → Stop
 chosen h i f g Done first second = none
 chosen h i f g (Refused e) first second =
-    let r = refusal_number e in record { refusal = pos r; first = named r f h; second = named r g i }
+    let r = merge_refusal e in record { refusal = pos r; first = named r f h; second = named r g i }
 chosen h i f g (First n) first second = first n
 chosen h i f g (Passed n) first second = first n
 chosen h i f g (Second n) first second = second n

@@ -2,7 +2,7 @@
 #![tactic(auto)]
 
 ghost use Rattle.std.specs.Prelude.{◌≡◌, pos};
-ghost use Rattle.merge.specs.Merge.{refusal_number, merge};
+ghost use Rattle.merge.specs.Merge.{merge_refusal, merge};
 ghost use Rattle.merge_stop.specs.Stop.{named, stop};
 
 use merge::{Choice, Front, MergeError};
@@ -19,7 +19,7 @@ pub struct Stop {
 // The i-th line of a sheet, which is f, where the refusal e is due to it, else 0.
 #[tactic(auto, unfolding(crate::specs::Stop::named))]
 fn name_line(e: MergeError, f: Front, i: usize) -> usize
-    ensures { result ≡ named (refusal_number e) f i }
+    ensures { result ≡ named (merge_refusal e) f i }
 {
     match (e, f) {
         (MergeError::Malformed, Front::Malformed)
@@ -41,8 +41,10 @@ pub fn stopped_at<'a>(a: &'a [u8], b: &'a [u8]) -> Stop
     // f is the h-th line of the first sheet, g the i-th of the second
     let mut h: usize = 1;
     let mut i: usize = 1;
+    // named, so that what is to be proved of the loop has a name too, whichever variables it changes
     'lines: loop {
         let c = merge::choose(p, q, f, g);
+        // by reference: this Rattle fails on an arm of two patterns that take a number by value
         match &c {
             Choice::Done => return Stop {
                 refusal: 0,

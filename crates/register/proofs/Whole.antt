@@ -1,5 +1,5 @@
 -- The whole call, over a width F up to 48: what was begun fits the engine, and what the engine makes of it is the answer.
-use mathlib.Core.Path.{◌≡◌, refl, sym, ◌∙◌, ap, subst}
+use mathlib.Core.Path.{◌≡◌, sym, ◌∙◌, ap, subst}
 use mathlib.Core.List.{[], ◌∷◌}
 use Prim.Native.Nat.{ℕ, ◌+◌, ◌-◌, ◌≤◌}
 use native.Mathlib.Omega.{arith}
@@ -25,33 +25,15 @@ use Rattle.tables.proofs.Promises.{step_promise}
 use Rattle.iteration.specs.Run.{run, Small}
 use Rattle.exponential.specs.declared.reduction.Reduced.{Reduced}
 use Rattle.exponential.specs.Reduction.{reduction}
-use Rattle.exponential.specs.Answer.{unless_refused, begun, figures_at, beginning, exp_beginning, exp_answer, Close}
+use Rattle.exponential.specs.Answer.{begun, figures_at, beginning, exp_beginning, exp_answer, Close}
 use Rattle.exponential.specs.Code.{Accepted}
 use Rattle.exponential.proofs.Fits.{ReducedFits, reduced_fits}
-use Rattle.exponential.proofs.Close.{not_refused, tests_keep, settled}
+use Rattle.exponential.proofs.Begun.{begun_says, refused_says}
+use Rattle.exponential.proofs.Close.{not_refused, settled}
 use Rattle.register.specs.Answer.{register_ended, register_figures, register_answer_by, register_answer}
 use Rattle.register.specs.Code.{TakePre, taken}
 use Rattle.register.proofs.Simulation.{same_ended, same_answer_by}
 use Rattle.register.proofs.Hardware.{register_narrow}
-
-module _ (F : ℕ) (c : Constants) (n : ℤ) (e s : 𝔾) where
-  abbrev r : Reduced
-  r = reduction F c e s
-
-  -- what an answer before the first step says
-  abbrev Says : Answer → Type 0
-  Says (Ok f) = Accepted F n e s × (f ≡ figures_at (nat_abs n) r (begun r))
-  Says (Err x) = (a : Answer) → unless_refused F n e s a ≡ Err x
-
-  says : Says (beginning F c n e s)
-  unfolding beginning
-  says = tests_keep F n e s Says (Ok (figures_at (nat_abs n) r (begun r))) (λ x refused. refused) (λ p. (p, refl))
-
-  pub begun_says : {f : Figures} → beginning F c n e s ≡ Ok f → Accepted F n e s × (f ≡ figures_at (nat_abs n) r (begun r))
-  begun_says b = subst Says b says
-
-  pub refused_says : {x : Refusal} → beginning F c n e s ≡ Err x → (a : Answer) → unless_refused F n e s a ≡ Err x
-  refused_says b = subst Says b says
 
 module _ (F : ℕ) (wide : 16 ≤ F) (narrow : F ≤ 48) (t : StepTable) (table : StepPromise F (F - 8) t)
     (c : Constants) (promise : ConstantsPromise F c) (n : ℤ) (e s : 𝔾) where
@@ -95,10 +77,6 @@ module _ (F : ℕ) (wide : 16 ≤ F) (narrow : F ≤ 48) (t : StepTable) (table 
 
 -- ---- at the width 48, with no hypothesis left
 module _ (n ex ey sx sy : ℤ) where
-  pub begun_accepted : {f : Figures} → exp_beginning n ex ey sx sy ≡ Ok f → Accepted 48 n (gi ex ey) (gi sx sy)
-  unfolding exp_beginning
-  begun_accepted b = (begun_says 48 constants48 n (gi ex ey) (gi sx sy) b).0
-
   pub begun_fits_48 : {f : Figures} → exp_beginning n ex ey sx sy ≡ Ok f → TakePre 48 step_table (nat_abs n) f
   unfolding exp_beginning
   begun_fits_48 b = begun_fits 48 (omega arith) (omega arith) step_table step_promise constants48 constants_promise n (gi ex ey) (gi sx sy) b

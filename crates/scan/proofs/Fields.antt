@@ -1,5 +1,5 @@
 -- Bytes parted by a mark: the fields of a line, the lines of a sheet; and bytes compared with a word.
-use Rattle.std.proofs.Common.{◌≡◌, nat_eq, ℕ, suc, ◌+◌, ◌<◌, ◌≤◌, Bool, true, T, eqb, ltb, List, [], ◌∷◌, ◌++◌, length, drop, take, min, ◌-◌, sym, refl, ap, ◌∙◌, subst, append_assoc, append-nil, add-one, arith, drop_of_length-le, drop-cons, ltb-false, ltb-true, le-ltb, lt-ltb, eq-eqb, ne_eqb, eqb-true}
+use Rattle.std.proofs.Common.{◌≡◌, nat_eq, ℕ, suc, ◌+◌, ◌<◌, ◌≤◌, true, T, eqb, ltb, List, [], ◌∷◌, ◌++◌, length, drop, take, min, ◌-◌, sym, refl, ap, ◌∙◌, subst, append_assoc, append-nil, add-one, arith, drop_of_length-le, drop-cons, ltb-false, ltb-true, le-ltb, lt-ltb, eq-eqb, ne_eqb, eqb-true}
 use Rattle.std.specs.Cmp.Lexicographic.{pointwise}
 use lib.Seq.{slice}
 use Rattle.algebra.proofs.Test.{either}
@@ -76,6 +76,3 @@ pub same_cut : (s word : List ℕ) (from to : ℕ) → let end = min to (length 
 same_cut s word from to =
     let p = cut {from = from} {to = to} {s = s} refl refl in
     same_is _ word ∙ ap (λ f. same_bytes f word) (part_slice _ _ s p.low ∙ p.same)
-
-pub same_word : (f : List ℕ) {w v : List ℕ} {b : Bool} → b ≡ same_bytes f w → w ≡ v → same_bytes f v ≡ b
-same_word f e h = ap (same_bytes f) (sym h) ∙ sym e

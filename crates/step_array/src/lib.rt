@@ -1,5 +1,5 @@
-// The step table as the array that 01 names (What form to use where), over the same named rows as the look-up in one line. Both are statics: a
-// constant array would be written to the stack at each call.
+// The step table as the array that 01 names (What form to use where), over the same named rows as step_table's one line of rows. Both tables are
+// statics: a constant array would be written to the stack at each call.
 #![tactic(auto)]
 
 ghost use Rattle.std.specs.Prelude.{◌≡◌};

@@ -11,7 +11,7 @@ use table_numbers::Entry;
 mod line48;
 pub mod rows48;
 
-// The row with a number in the one line of rows, three to an n; noughts outside. It stands in the steps' loop, so that its numbers come in
+// The row with a number in the one line of rows, three to an n; noughts outside. Inlined, so that in the steps' loop the row's numbers stay in
 // registers.
 #[inline(always)]
 pub fn row_at(index: usize) -> [Entry; 3]

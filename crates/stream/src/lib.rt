@@ -152,13 +152,13 @@ pub fn feed(place: Place, piece: &[u8], out: &mut [u8]) -> Fed
     let mut here = place;
     let mut i: usize = 0;
     let mut written: usize = 0;
-    let mut end = scan::find_byte(piece, i, 10);
+    let mut end = scan::find_byte(piece, i, b'\n');
     while end < piece.len() && ANSWER_ROOM <= out.len() - written {
         let a = answer_ended(here, &piece[i..end], &mut out[written..]);
         here = new_line(a.state);
         written += a.written;
         i = end + 1;
-        end = scan::find_byte(piece, i, 10);
+        end = scan::find_byte(piece, i, b'\n');
     }
     Fed {
         place: extended(here, &piece[i..end]),

@@ -1,4 +1,4 @@
--- A cell as code finds it: 256 and nought outside; inside, its place among the cells, and nothing on the way to its number overflows.
+-- A cell as code finds it: noughts outside; inside, its place among the cells, and nothing on the way to its number overflows.
 use mathlib.Core.Path.{◌≡◌}
 use mathlib.Core.Bool.{true, false}
 use mathlib.Core.List.{List, [], ◌∷◌}
@@ -16,7 +16,8 @@ use Rattle.algebra.proofs.Linear.{lin, ◌&◌, none}
 use Rattle.point.proofs.InLimits.{box_says}
 use Rattle.table_numbers.specs.Reciprocal.{reciprocal, centre, InTable}
 use Rattle.table_numbers.specs.Cell.{numbered, is_cell, cell_of}
-use Rattle.table_numbers.specs.Rows.{entry, none as nothing, reciprocal_at}
+use Rattle.table_numbers.specs.Numbers48.{reciprocal_logs}
+use Rattle.table_numbers.specs.Rows.{entry, none as nothing, reciprocal_at, reciprocal_log_at}
 use Rattle.tables.specs.Code.{CellFits}
 
 record Small (z : ℤ) : Type 0 where
@@ -30,9 +31,9 @@ small (negsuc n) lo hi = absurd lo.le
 
 module _ (column row : ℤ) where
   -- ---- outside
-  pub no_number : is_cell column row ≡ false → 256 ≡ cell_of column row
-  unfolding cell_of
-  no_number h = rw h
+  pub no_log : is_cell column row ≡ false → nothing ≡ reciprocal_log_at (cell_of column row)
+  unfolding cell_of reciprocal_logs
+  no_log h = rw h
 
   pub no_reciprocal : is_cell column row ≡ false → nothing ≡ reciprocal_at column row
   unfolding reciprocal_at

@@ -83,12 +83,26 @@ pub struct LineAnswer {
 
 // ---- reading
 
-// An EXP line's fields from N on.
-fn exp_line(s: &[u8], serial: i64, at: usize) -> Line
-    ensures { result ≡ formed (numbers 5 (fields_at s.now at)) (exp_of serial) }
+// The numbers that the fields from `at` on are, if they are N and no more.
+fn fields<const N: usize>(s: &[u8], at: usize) -> Option<[i64; N]>
+    ensures { result ≡ numbers N (fields_at s.now at) }
 {
-    let mut v = [0i64; 5];
-    if scan::read_numbers(s, at, &mut v) {
+    let mut v = [0i64; N];
+    scan::read_numbers(s, at, &mut v).then_some(v)
+}
+
+// A line's fields from its kind on.
+fn kind_line(s: &[u8], serial: i64, at: usize) -> Line
+    ensures { result ≡ kind_line serial (fields_at s.now at) }
+{
+    if s.len() < at {
+        return Line::Malformed;
+    }
+    let f = scan::find_byte(s, at, b'\t');
+    if scan::same_bytes(s, at, f, b"EXP") {
+        let Some(v) = fields::<5>(s, f + 1) else {
+            return Line::Malformed;
+        };
         let [n, ex, ey, sx, sy] = v;
         return Line::Exp {
             serial,
@@ -97,15 +111,10 @@ fn exp_line(s: &[u8], serial: i64, at: usize) -> Line
             start: Point { x: sx, y: sy },
         };
     }
-    Line::Malformed
-}
-
-// A LOG line's fields from N on.
-fn log_line(s: &[u8], serial: i64, at: usize) -> Line
-    ensures { result ≡ formed (numbers 3 (fields_at s.now at)) (log_of serial) }
-{
-    let mut v = [0i64; 3];
-    if scan::read_numbers(s, at, &mut v) {
+    if scan::same_bytes(s, at, f, b"LOG") {
+        let Some(v) = fields::<3>(s, f + 1) else {
+            return Line::Malformed;
+        };
         let [n, x, y] = v;
         return Line::Log {
             serial,
@@ -116,32 +125,15 @@ fn log_line(s: &[u8], serial: i64, at: usize) -> Line
     Line::Malformed
 }
 
-// A line's fields from its kind on.
-fn kind_line(s: &[u8], serial: i64, at: usize) -> Line
-    ensures { result ≡ kind_line serial (fields_at s.now at) }
-{
-    if s.len() < at {
-        return Line::Malformed;
-    }
-    let f = scan::find_byte(s, at, 9);
-    if scan::same_bytes(s, at, f, b"EXP") {
-        return exp_line(s, serial, f + 1);
-    }
-    if scan::same_bytes(s, at, f, b"LOG") {
-        return log_line(s, serial, f + 1);
-    }
-    Line::Malformed
-}
-
 // The line that bytes are, which come without their newline.
 pub fn read_line(s: &[u8]) -> Line
     ensures { result ≡ read_line s.now }
 {
-    let e = scan::find_byte(s, 0, 9);
+    let e = scan::find_byte(s, 0, b'\t');
     let Some(serial) = scan::read_number(s, 0, e) else {
         return Line::Malformed;
     };
-    if !(1..=9999999).contains(&serial) {
+    if !point::is_between(1, 9999999, serial) {
         return Line::Malformed;
     }
     kind_line(s, serial, e + 1)
@@ -228,10 +220,7 @@ pub fn reply(line: Line, out: &mut [u8]) -> LineAnswer
     ensures bytes { out.new ≡ out_for (reply_of line) out.old }
 {
     if out.len() < ANSWER_ROOM {
-        return LineAnswer {
-            refusal: i64::from(LineError::NoRoom),
-            written: 0,
-        };
+        return refuse(0, i64::from(LineError::NoRoom), out);
     }
     match line {
         Line::Malformed => refuse(0, i64::from(LineError::Malformed), out),

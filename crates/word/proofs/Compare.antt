@@ -56,5 +56,3 @@ is_between h k = rw (le_le_z h, le_le_z k)
 -- a size is compared without negating, since −2^63 has none
 pub size_between : {x b : ℤ} → between (neg_ℤ b) b x ≡ true → Size x b
 size_between e = let h = between_true e in record { lo = h.0; hi = h.1 }
-
--- ---- the size of a number as code makes it, `if x < 0 { -x } else { x }`

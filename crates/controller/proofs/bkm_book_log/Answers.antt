@@ -6,6 +6,5 @@ use Rattle.controller.proofs.bkm_book_log.Goals as goal
 pub returns : goal.returns
 returns c =
     let s = c.ranges in
-    let h = c.book_answer.ensures in
-    let told = booked (rw (back s.caller, back s.n, back s.x, back s.y) at c.log-s.ensures.outcome) (h.answer, h.book) in
+    let told = booked (rw (back s.caller, back s.n, back s.x, back s.y) at c.log-s.ensures.outcome) c.from.ensures in
     record { answer = told.0; book = told.1 }

@@ -1,12 +1,9 @@
 -- `doubles::write_part` meets its contract: the conversion and the division are exact.
-use Rattle.std.proofs.Common.{arith, lit≤}
+use Rattle.std.proofs.Common.{lit≤}
 use Rattle.word.proofs.Fits.{back}
-use Rattle.doubles.proofs.Value.{in_double, written_is}
+use Rattle.doubles.proofs.Value.{written_is}
 use Rattle.doubles.proofs.Found.{two_48}
 use Rattle.doubles.proofs.write_part.Goals as goal
-
-pub int_to_float-result : goal.int_to_float-result
-int_to_float-result c = rw (back c.before.ranges.units) (in_double c.before.args.units (omega arith))
 
 pub returns : goal.returns
 returns c = rw (back c.before.ranges.units) (written_is 48 c.before.args.units (lit≤ tt) c.before.requires two_48)

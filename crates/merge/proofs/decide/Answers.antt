@@ -2,11 +2,8 @@
 use mathlib.Core.Path.{refl, sym, ap, ◌∙◌}
 use native.Mathlib.Omega.{arith}
 use borrow.Author.Rules.{rules}
-use mir.Syntax.{w64}
-use mir.Val.{SFits}
-use Rattle.stream.specs.Machine.{lines}
 use Rattle.merge.specs.Merge.{Merge, merge}
-use Rattle.merge.proofs.Turn.{merge_rest, whole, held, behind_first, behind_second, done, refused, first_refusal, second_refusal, first_behind_less, second_behind_less}
+use Rattle.merge.proofs.Turn.{merge_rest, whole, read_behind_first, read_behind_second, done, refused, first_refusal, second_refusal, first_behind_less, second_behind_less}
 use Rattle.merge.proofs.decide.Goals as goal
 
 pub lines-init : goal.lines-init
@@ -28,11 +25,8 @@ lines-smaller c = omega (arith, first_behind_less c.lines.invariant.0 c.choose-c
 
 pub lines-preserved : goal.lines-preserved
 lines-preserved c =
-    let i = c.lines.invariant in
-    let n = c.in-First.n in
-    let r = c.step-p.result.now in
-    let fits : SFits w64 n = search rules in (
-      behind_first i.0 n r (held n (lines r) fits c.read_front-f-in-First.ensures),
+    let i = c.lines.invariant in (
+      read_behind_first i.0 c.in-First.n c.step-p.result.now (search rules) c.read_front-f-in-First.ensures,
       sym (first_refusal i.0 c.choose-c.ensures c.in-First.is c.step-p.ensures) ∙ i.1,
     )
 
@@ -41,10 +35,7 @@ lines-smaller-in-Second-1 c = omega (arith, second_behind_less c.lines.invariant
 
 pub lines-preserved-in-Second-1 : goal.lines-preserved-in-Second-1
 lines-preserved-in-Second-1 c =
-    let i = c.lines.invariant in
-    let n = c.in-Second.n in
-    let r = c.step-q.result.now in
-    let fits : SFits w64 n = search rules in (
-      behind_second i.0 n r (held n (lines r) fits c.read_front-g-in-Second.ensures),
+    let i = c.lines.invariant in (
+      read_behind_second i.0 c.in-Second.n c.step-q.result.now (search rules) c.read_front-g-in-Second.ensures,
       sym (second_refusal i.0 c.choose-c.ensures c.in-Second.is c.step-q.ensures) ∙ i.1,
     )

@@ -14,7 +14,7 @@ pub bounds-out-end : goal.bounds-out-end
 bounds-out-end c = omega (arith, (line_written (goal.at.bounds-out-end c).After-put_bytes-end).after, kept (line_written (goal.at.bounds-out-end c).After-put_bytes-end), c.requires)
 
 pub overflow_add-result : goal.overflow_add-result
-overflow_add-result c = omega (arith, (line_written (goal.at.overflow_add-result c).After-put_bytes-end).after, c.requires, c.type_inv)
+overflow_add-result c = omega (arith, (line_written (goal.at.overflow_add-result c).After-put_bytes-end).after, c.requires)
 
 pub returns : goal.returns
 returns c = then (line_written (goal.at.returns c).After-put_bytes-end) (one c.put_bytes-end.new.out c.put_bytes-end.result 10)

@@ -7,10 +7,10 @@ use lib.Signed.{le_z}
 use mir.Syntax.{w64}
 use mir.Val.{SFits}
 use Rattle.word.proofs.Fits.{back}
-use Rattle.text.specs.Line.{serial_of}
+use Rattle.text.specs.Line.{read_line, serial_of}
 use Rattle.stream.specs.Machine.{lines}
 use Rattle.merge.specs.Merge.{by_number, front_line, front}
-use Rattle.merge.proofs.Found.{first_length, front_none, front_is}
+use Rattle.merge.proofs.Found.{front_none, front_is}
 use Rattle.merge.proofs.read_front.Goals as goal
 use Rattle.merge.proofs.read_front.Goals.{After-serial}
 
@@ -19,14 +19,11 @@ is_read : (c : After-serial) → front c.args.last (lines c.args.s.now) ≡ by_n
 unfolding front_line
 is_read c =
     let some : length c.args.s.now ≡ 0 → ⊥ = search rules in
-    front_is c.args.s.now c.find_byte-end.result c.find_byte-end.ensures c.args.last some
-    ∙ ap (by_number c.args.last) (sym (c.serial.ensures ∙ ap serial_of c.read_line-line.ensures))
+    front_is c.args.s.now c.args.last some
+    ∙ ap (by_number c.args.last) (sym (c.serial.ensures ∙ ap serial_of (c.read_line.ensures ∙ ap read_line c.first_line.ensures)))
 
 pub returns-then-is_empty : goal.returns-then-is_empty
 returns-then-is_empty c = let n : length c.args.s.now ≡ 0 = search rules in sym (front_none c.args.last c.args.s.now n)
-
-pub slice_bounds-read_line-end : goal.slice_bounds-read_line-end
-slice_bounds-read_line-end c = sym (first_length c.args.s.now c.find_byte-end.result c.find_byte-end.ensures)
 
 pub returns-in-None : goal.returns-in-None
 returns-in-None c = rw (is_read (goal.at.returns-in-None c).After-serial, c.in-None.is)

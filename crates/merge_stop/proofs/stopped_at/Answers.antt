@@ -5,9 +5,8 @@ use borrow.Author.Rules.{rules}
 use mir.Syntax.{w64}
 use mir.Val.{SFits}
 use Rattle.word.proofs.Fits.{back}
-use Rattle.stream.specs.Machine.{lines}
 use Rattle.merge_stop.specs.Stop.{stop}
-use Rattle.merge.proofs.Turn.{whole, held, behind_first, behind_second, first_behind_less, second_behind_less}
+use Rattle.merge.proofs.Turn.{whole, read_behind_first, read_behind_second, first_behind_less, second_behind_less}
 use Rattle.merge_stop.proofs.Named.{stop_rest, by, first, second, both}
 use Rattle.merge_stop.proofs.stopped_at.Goals as goal
 
@@ -35,11 +34,8 @@ lines-smaller c = omega (arith, first_behind_less c.lines.invariant.0 c.choose-c
 pub lines-preserved : goal.lines-preserved
 lines-preserved c =
     let l = c.lines.invariant in
-    let n = c.in-First.n in
-    let r = c.step-p.result.now in
-    let d = first_behind_less l.0 c.choose-c.ensures c.in-First.is c.step-p.ensures in
-    let fits : SFits w64 n = search rules in (
-      behind_first l.0 n r (held n (lines r) fits c.read_front-f-in-First.ensures),
+    let d = first_behind_less l.0 c.choose-c.ensures c.in-First.is c.step-p.ensures in (
+      read_behind_first l.0 c.in-First.n c.step-p.result.now (search rules) c.read_front-f-in-First.ensures,
       (first _ _ l.0 c.choose-c.ensures c.in-First.is c.step-p.ensures ∙ l.1.0, (omega arith, omega arith)),
     )
 
@@ -49,10 +45,7 @@ lines-smaller-in-Second-1 c = omega (arith, second_behind_less c.lines.invariant
 pub lines-preserved-in-Second-1 : goal.lines-preserved-in-Second-1
 lines-preserved-in-Second-1 c =
     let l = c.lines.invariant in
-    let n = c.in-Second.n in
-    let r = c.step-q.result.now in
-    let d = second_behind_less l.0 c.choose-c.ensures c.in-Second.is c.step-q.ensures in
-    let fits : SFits w64 n = search rules in (
-      behind_second l.0 n r (held n (lines r) fits c.read_front-g-in-Second.ensures),
+    let d = second_behind_less l.0 c.choose-c.ensures c.in-Second.is c.step-q.ensures in (
+      read_behind_second l.0 c.in-Second.n c.step-q.result.now (search rules) c.read_front-g-in-Second.ensures,
       (second _ _ l.0 c.choose-c.ensures c.in-Second.is c.step-q.ensures ∙ l.1.0, (omega arith, omega arith)),
     )

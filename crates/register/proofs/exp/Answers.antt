@@ -5,7 +5,8 @@ use Rattle.std.specs.Prelude.{Ok}
 use Rattle.std.proofs.lemmas.Result.{err_from_is_err_and}
 use Rattle.word.proofs.Fits.{back}
 use Rattle.point.proofs.InLimits.{steps_cast}
-use Rattle.register.proofs.Whole.{begun_accepted, begun_fits_48, begun_gives_48, refused_gives_48, meets}
+use Rattle.exponential.proofs.Begun.{begun_accepted}
+use Rattle.register.proofs.Whole.{begun_fits_48, begun_gives_48, refused_gives_48, meets}
 use Rattle.register.proofs.exp.Goals as goal
 
 pub returns : goal.returns

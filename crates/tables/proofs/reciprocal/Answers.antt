@@ -19,14 +19,8 @@ facts c = let s = c.before.before in centre_fits (in_table s.args.column s.args.
 pub overflow_mul-x : goal.overflow_mul-x
 overflow_mul-x c = let f = facts c in search rules
 
-pub overflow_add-x : goal.overflow_add-x
-overflow_add-x c = let f = facts c in search rules
-
 pub overflow_mul-y : goal.overflow_mul-y
 overflow_mul-y c = let f = facts c in search rules
-
-pub overflow_add-y : goal.overflow_add-y
-overflow_add-y c = let f = facts c in search rules
 
 pub inverse-requires : goal.inverse-requires
 inverse-requires c = let s = c.before.before in let f = facts c in

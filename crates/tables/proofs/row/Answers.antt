@@ -37,9 +37,6 @@ overflow_add-dx c = next_fits (digit c)
 pub overflow_cast-dx : goal.overflow_cast-dx
 overflow_cast-dx c = rw (place_word (digit c)) (tt, record { fits = omega (arith, place_lt (digit c)) })
 
-pub overflow_add-n : goal.overflow_add-n
-overflow_add-n c = rw (place_word (digit c)) (record { fits = omega (arith, place_lt (digit c)) })
-
 pub returns : goal.returns
 returns c =
     let both = (let d = digit c.before in

@@ -1,19 +1,11 @@
 -- `text::read_line` meets its contract: the serial, and what its kind asks for.
 use Rattle.std.specs.Prelude.{Option, Some}
 use mathlib.Core.Path.{◌≡◌, ap, sym, ◌∙◌}
-use mathlib.Core.Bool.{cond, true, false}
-use mathlib.Core.List.{List, [], ◌∷◌}
+use mathlib.Core.Bool.{cond}
+use mathlib.Core.List.{List}
 use Prim.Native.Nat.{ℕ, ◌+◌}
 use native.Mathlib.Omega.{arith}
-use lib.IntN.{ℤ, pos, ◌+ℤ◌}
-use Rattle.std.specs.Ordering.{is_le, int_cmp}
-use lib.Signed.{le_z, lt_z}
-use Rattle.algebra.specs.Order.{◌⩽◌}
-use Rattle.algebra.proofs.Test.{either}
-use Rattle.algebra.proofs.Order.{tested, lt_of_suc_le}
-use Rattle.algebra.proofs.Reify.{reify}
-use Rattle.algebra.proofs.Linear.{lin, ◌&◌, none}
-use Rattle.word.proofs.Compare.{le_lt_z, lt_lt_z}
+use lib.IntN.{ℤ, pos}
 use Rattle.word.specs.Compare.{between}
 use Rattle.word.proofs.Fits.{back}
 use Rattle.scan.specs.Fields.{fields_at}
@@ -37,36 +29,18 @@ ranged : (line : List ℕ) {e : ℕ} {n : Option ℤ} {serial : ℤ} → e ≡ f
     read_line line ≡ cond (between (pos 1) (pos 9999999) serial) (kind_line serial (fields_at line (e + 1))) Malformed
 ranged line {e} h r i = front line h r ∙ ap (λ k. serial_line k (fields_at line (e + 1))) i
 
--- the library's order of signed numbers
-is_le_z : (x y : ℤ) → is_le (int_cmp x y) ≡ le_z x y
-is_le_z x y = tested (λ t. is_le (int_cmp x y) ≡ t) x y above below
-  where
-    above : x ⩽ y → is_le (int_cmp x y) ≡ true
-    above h = either (lt_z x y) (λ e. rw e) (λ e. rw (e, le_lt_z h))
-
-    below : y +ℤ pos 1 ⩽ x → is_le (int_cmp x y) ≡ false
-    below h =
-        let le : y ⩽ x = lin (y ∷ x ∷ []) (h & none) (search reify depth 20) tt in
-        rw (le_lt_z le, lt_lt_z (lt_of_suc_le h))
-
 pub returns-in_default : goal.returns-in_default
 returns-in_default c = rw (front c.args.s.now c.find_byte-e.ensures c.read_number.ensures, c.in_default.is)
 
-pub returns-then-not-contains : goal.returns-then-not-contains
-unfolding between
-returns-then-not-contains c =
+pub returns-then-not-is_between : goal.returns-then-not-is_between
+returns-then-not-is_between c =
     let fits = back (number_is _ c.in-Some.serial (sym c.read_number.ensures ∙ c.in-Some.is)).fits in
-    let outside : between (pos 1) (pos 9999999) c.in-Some.serial ≡ false
-    = sym (rw (fits, c.new.ensures.start, c.new.ensures.end, c.new.ensures.exhausted, is_le_z, is_le_z) at c.if-not-contains.ensures.value) in
-    rw (ranged c.args.s.now c.find_byte-e.ensures c.read_number.ensures c.in-Some.is, outside)
+    rw (ranged c.args.s.now c.find_byte-e.ensures c.read_number.ensures c.in-Some.is, sym (rw fits at c.is_between.ensures) ∙ c.if-not-is_between.true)
 
 pub overflow_add-e : goal.overflow_add-e
 overflow_add-e c = omega (arith, (ended {from = 0} (omega arith) c.find_byte-e.ensures).high)
 
 pub returns : goal.returns
-unfolding between
 returns c =
     let fits = back (number_is _ c.in-Some.serial (sym c.read_number.ensures ∙ c.in-Some.is)).fits in
-    let inside : between (pos 1) (pos 9999999) c.in-Some.serial ≡ true
-    = sym (rw (fits, c.new.ensures.start, c.new.ensures.end, c.new.ensures.exhausted, is_le_z, is_le_z) at c.if-not-contains.ensures.value) in
-    rw (ranged c.args.s.now c.find_byte-e.ensures c.read_number.ensures c.in-Some.is, inside) (rw fits at c.kind_line.ensures)
+    rw (ranged c.args.s.now c.find_byte-e.ensures c.read_number.ensures c.in-Some.is, sym (rw fits at c.is_between.ensures) ∙ c.if-not-is_between.false) (rw fits at c.kind_line.ensures)

@@ -1,24 +1,28 @@
 -- `text::reply` meets its contract: 6, then 5, then the operation's own.
 use mathlib.Core.Path.{◌≡◌}
+use Prim.Native.Nat.{◌<◌}
 use native.Mathlib.Omega.{arith}
+use borrow.Author.Tests.{lt-ltb}
+use lib.ListN.{length}
 use mir.Syntax.{w64}
 use mir.Val.{SFits}
 use Rattle.word.proofs.Fits.{back, sfits_mag}
 use Rattle.exponential.specs.Answer.{exp_answer}
 use Rattle.logarithm.specs.Answer.{log_answer}
 use Rattle.text.specs.declared.Line.TheVariants.{Exp, Log}
-use Rattle.text.specs.Answer.{reply_of}
-use Rattle.text.proofs.Call.{short_buffer, line_called}
+use Rattle.text.specs.Answer.{answer_room, reply_of}
+use Rattle.text.proofs.Call.{line_called}
 use Rattle.text.proofs.reply.Goals as goal
 
 pub returns-then-out-lt-ANSWER_ROOM : goal.returns-then-out-lt-ANSWER_ROOM
 returns-then-out-lt-ANSWER_ROOM c =
-    let a = short_buffer (reply_of c.args.line) c.args.out.now (omega arith) in
-    record { refusal = rw c.from.ensures a.0; count = a.1.0; bytes = a.1.1 }
+    let short : length c.args.out.now < answer_room = omega arith in
+    let e = lt-ltb _ _ short in
+    rw e (rw e at c.refuse.ensures)
 
 pub returns-in-Malformed : goal.returns-in-Malformed
 unfolding reply_of
-returns-in-Malformed c = rw c.in-Malformed.is (rw c.from-in-Malformed.ensures at c.refuse.ensures)
+returns-in-Malformed c = rw c.in-Malformed.is (rw c.from-in-Malformed.ensures at c.refuse-in-Malformed.ensures)
 
 pub returns-in-Exp : goal.returns-in-Exp
 unfolding reply_of

@@ -1,6 +1,0 @@
--- `edges::log_of_nought` meets its contract.
-use Rattle.word.proofs.Fits.{back}
-use Rattle.edges.proofs.log_of_nought.Goals as goal
-
-pub returns : goal.returns
-returns c = simp (back, c.before.ranges.n) at c.log.ensures.answer
