@@ -20,27 +20,12 @@ use Rattle.exponential.proofs.begin.Goals.{In_ok-test}
 accepted : (c : In_ok-test) → Accepted 48 c.args.n (gauss c.args.exponent) (gauss c.args.start)
 accepted c = rw (back c.ranges.n) at c.in_ok-test.ensures
 
+-- ---- the contract
 pub returns-in_err-test : goal.returns-in_err-test
 unfolding exp_beginning beginning
 returns-in_err-test c =
     let p = err_from_is_err_and c.from_residual.result c.from_residual.ensures.1 in
     rw (p.1, p.2) (sym ((rw (back c.ranges.n) at c.in_err-test.ensures) _))
-
-pub reduce-given-requires : goal.reduce-given-requires
-reduce-given-requires c =
-    let p = accepted (goal.at.reduce-given-requires c).In_ok-test in
-    record { exponent_parts = reach_says 48 (gauss c.args.exponent) p.reach; start_parts = parts_say 48 (gauss c.args.start) p.start }
-
-pub overflow_cast-n : goal.overflow_cast-n
-overflow_cast-n c =
-    let p = accepted (goal.at.overflow_cast-n c).In_ok-test in
-    rw (back c.ranges.n) (steps_cast 48 1 c.args.n (omega arith) p.steps)
-
-pub error_bound-bound-requires : goal.error_bound-bound-requires
-error_bound-bound-requires c =
-    let p = accepted (goal.at.error_bound-bound-requires c).In_ok-test in
-    let f = fits_48 p c.reduce-given.ensures in
-    simp (back, c.ranges.n) (record { n_bound = f.few; parts = f.start })
 
 pub returns : goal.returns
 unfolding exp_beginning beginning
@@ -59,3 +44,20 @@ returns c =
     }) in
     made ∙ (ap (λ (g : Reduced). Ok (figures_at n g (begun g))) c.reduce-given.ensures
     ∙ sym (not_refused 48 a.n (gauss a.exponent) (gauss a.start) p _))
+
+-- ---- the needs
+pub reduce-given-requires : goal.reduce-given-requires
+reduce-given-requires c =
+    let p = accepted (goal.at.reduce-given-requires c).In_ok-test in
+    record { exponent_parts = reach_says 48 (gauss c.args.exponent) p.reach; start_parts = parts_say 48 (gauss c.args.start) p.start }
+
+pub overflow_cast-n : goal.overflow_cast-n
+overflow_cast-n c =
+    let p = accepted (goal.at.overflow_cast-n c).In_ok-test in
+    rw (back c.ranges.n) (steps_cast 48 1 c.args.n (omega arith) p.steps)
+
+pub error_bound-bound-requires : goal.error_bound-bound-requires
+error_bound-bound-requires c =
+    let p = accepted (goal.at.error_bound-bound-requires c).In_ok-test in
+    let f = fits_48 p c.reduce-given.ensures in
+    simp (back, c.ranges.n) (record { n_bound = f.few; parts = f.start })

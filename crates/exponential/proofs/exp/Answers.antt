@@ -43,4 +43,4 @@ returns c =
     let f = begun_fits a.n a.exponent.x a.exponent.y a.start.x a.start.y b in
     let all = settled a.n a.exponent.x a.exponent.y a.start.x a.start.y
     (begun_ends a.n a.exponent.x a.exponent.y a.start.x a.start.y b (simp (back, c.ranges.n) at c.run-end.ensures)) in
-    rw (back f.exponent, back f.quadrant, back f.bound) (record { answer = all.0; close = all.1.0; remainder = all.1.1 })
+    simp (back, f.exponent, f.quadrant, f.bound) (record { answer = all.0; close = all.1.0; remainder = all.1.1 })
