@@ -1,7 +1,7 @@
 -- `text::read_line` meets its contract: the serial, and what its kind asks for.
 use Rattle.std.specs.Prelude.{Option, Some}
 use mathlib.Core.Path.{◌≡◌, ap, sym, ◌∙◌}
-use mathlib.Core.Bool.{cond}
+use mathlib.Core.Bool.{cond, true, false}
 use mathlib.Core.List.{List}
 use Prim.Native.Nat.{ℕ, ◌+◌}
 use native.Mathlib.Omega.{arith}
@@ -35,7 +35,8 @@ returns-in_default c = rw (front c.args.s.now c.find_byte-e.ensures c.read_numbe
 pub returns-then-not-is_between : goal.returns-then-not-is_between
 returns-then-not-is_between c =
     let fits = back (number_is _ c.in-Some.serial (sym c.read_number.ensures ∙ c.in-Some.is)).fits in
-    rw (ranged c.args.s.now c.find_byte-e.ensures c.read_number.ensures c.in-Some.is, sym (rw fits at c.is_between.ensures) ∙ c.if-not-is_between.true)
+    let outside : between (pos 1) (pos 9999999) c.in-Some.serial ≡ false = ap (between (pos 1) (pos 9999999)) (sym fits) ∙ (sym c.is_between.ensures ∙ c.if-not-is_between.true) in
+    rw (ranged c.args.s.now c.find_byte-e.ensures c.read_number.ensures c.in-Some.is, outside)
 
 pub overflow_add-e : goal.overflow_add-e
 overflow_add-e c = omega (arith, (ended {from = 0} (omega arith) c.find_byte-e.ensures).high)
@@ -43,4 +44,5 @@ overflow_add-e c = omega (arith, (ended {from = 0} (omega arith) c.find_byte-e.e
 pub returns : goal.returns
 returns c =
     let fits = back (number_is _ c.in-Some.serial (sym c.read_number.ensures ∙ c.in-Some.is)).fits in
-    rw (ranged c.args.s.now c.find_byte-e.ensures c.read_number.ensures c.in-Some.is, sym (rw fits at c.is_between.ensures) ∙ c.if-not-is_between.false) (rw fits at c.kind_line.ensures)
+    let inside : between (pos 1) (pos 9999999) c.in-Some.serial ≡ true = ap (between (pos 1) (pos 9999999)) (sym fits) ∙ (sym c.is_between.ensures ∙ c.if-not-is_between.false) in
+    rw (ranged c.args.s.now c.find_byte-e.ensures c.read_number.ensures c.in-Some.is, inside) (rw fits at c.kind_line.ensures)
