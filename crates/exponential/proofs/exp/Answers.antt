@@ -1,12 +1,13 @@
 -- `exponential::exp` meets its contract.
-use mathlib.Core.Path.{◌≡◌, sym}
+use mathlib.Core.Path.{◌≡◌, sym, ◌∙◌, subst}
 use native.Mathlib.Omega.{arith}
 use Rattle.std.specs.Prelude.{Ok}
 use Rattle.std.proofs.lemmas.Result.{err_from_is_err_and}
 use Rattle.word.proofs.Fits.{back}
 use Rattle.point.proofs.InLimits.{steps_cast}
-use Rattle.exponential.specs.Answer.{exp_beginning}
-use Rattle.exponential.proofs.Begun.{begun_accepted, begun_fits, begun_ends, begun_refused}
+use Rattle.answer.specs.Remainder.{RemainderBelow}
+use Rattle.exponential.specs.Answer.{exp_beginning, Close}
+use Rattle.exponential.proofs.Begun.{ending, begun_accepted, begun_fits, begun_ends, begun_refused}
 use Rattle.exponential.proofs.Close.{settled}
 use Rattle.exponential.proofs.exp.Goals as goal
 use Rattle.exponential.proofs.exp.Goals.{In_ok-f}
@@ -41,6 +42,18 @@ returns c =
     let a = c.args in
     let b = begins (goal.at.returns c).In_ok-f in
     let f = begun_fits a.n a.exponent.x a.exponent.y a.start.x a.start.y b in
+    let x = c.run-end.result in
     let all = settled a.n a.exponent.x a.exponent.y a.start.x a.start.y
     (begun_ends a.n a.exponent.x a.exponent.y a.start.x a.start.y b (simp (back, c.ranges.n) at c.run-end.ensures)) in
-    simp (back, f.exponent, f.quadrant, f.bound) (record { answer = all.0; close = all.1.0; remainder = all.1.1 })
+    let made : _ ≡ Ok (ending c.in_ok-f.f x) = λ i. Ok (record {
+      value = x.point;
+      binary_exponent = back f.exponent i;
+      quadrant = back f.quadrant i;
+      error_bound = back f.bound i;
+      remainder = x.sum;
+    }) in
+    record {
+      answer = made ∙ all.0;
+      close = subst (Close a.n a.exponent.x a.exponent.y a.start.x a.start.y) (sym made) all.1.0;
+      remainder = subst (RemainderBelow 48 a.n) (sym made) all.1.1;
+    }
