@@ -7,7 +7,7 @@ use Rattle.word.proofs.Fits.{back}
 use Rattle.point.proofs.InLimits.{steps_cast}
 use Rattle.answer.specs.Remainder.{RemainderBelow}
 use Rattle.exponential.specs.Answer.{exp_beginning, Close}
-use Rattle.exponential.proofs.Begun.{ending, begun_accepted, begun_fits, begun_ends, begun_refused}
+use Rattle.exponential.proofs.Begun.{BegunFits, ending, begun_accepted, begun_fits, begun_ends, begun_refused}
 use Rattle.exponential.proofs.Close.{settled}
 use Rattle.exponential.proofs.exp.Goals as goal
 use Rattle.exponential.proofs.exp.Goals.{In_ok-f}
@@ -41,7 +41,7 @@ pub returns : goal.returns
 returns c =
     let a = c.args in
     let b = begins (goal.at.returns c).In_ok-f in
-    let f = begun_fits a.n a.exponent.x a.exponent.y a.start.x a.start.y b in
+    let f : BegunFits a.n c.in_ok-f.f = begun_fits a.n a.exponent.x a.exponent.y a.start.x a.start.y b in
     let x = c.run-end.result in
     let all = settled a.n a.exponent.x a.exponent.y a.start.x a.start.y
     (begun_ends a.n a.exponent.x a.exponent.y a.start.x a.start.y b (simp (back, c.ranges.n) at c.run-end.ensures)) in
