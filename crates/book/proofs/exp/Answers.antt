@@ -18,7 +18,7 @@ clauses : (caller n ex ey sx sy : ℤ) (b : Book) {r : Settled} →
 clauses caller n ex ey sx sy b =
     meets (exp_by caller n ex ey sx sy) b (Close n ex ey sx sy) (RemainderBelow 48 n) (exp_close n ex ey sx sy) (exp_remainder n ex ey sx sy)
 
--- ---- the contract
+-- ---- the contract, first, so that a wrong body is refused for its answer
 pub returns-in_default : goal.returns-in_default
 returns-in_default c =
     let a = c.args in

@@ -17,7 +17,7 @@ clauses : (caller n x y : ℤ) (b : Book) {r : Settled} →
     (r ≡ outcome c b) × (OfAnswer (Close n x y) r.reply × OfAnswer (RemainderBelow 48 n) r.reply)
 clauses caller n x y b = meets (log_by caller n x y) b (Close n x y) (RemainderBelow 48 n) (log_close n x y) (log_remainder n x y)
 
--- ---- the contract
+-- ---- the contract, first, so that a wrong body is refused for its answer
 pub returns-in_default : goal.returns-in_default
 returns-in_default c =
     let a = c.args in

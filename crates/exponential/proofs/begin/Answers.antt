@@ -20,7 +20,7 @@ use Rattle.exponential.proofs.begin.Goals.{In_ok-test}
 accepted : (c : In_ok-test) → Accepted 48 c.args.n (gauss c.args.exponent) (gauss c.args.start)
 accepted c = rw (back c.ranges.n) at c.in_ok-test.ensures
 
--- ---- the contract
+-- ---- the contract, first, so that a wrong body is refused for its answer
 pub returns-in_err-test : goal.returns-in_err-test
 unfolding exp_beginning beginning
 returns-in_err-test c =
