@@ -28,6 +28,11 @@ fn write_natural(v: u64, out: &mut [u8], at: usize) -> usize
     requires { at + length (show_natural v) ≤ length out.old }
     ensures { Put out.old at (show_natural v) out.new result }
 {
+    // one digit needs no count
+    if v < 10 {
+        out[at] = b'0' + v as u8;
+        return at + 1;
+    }
     let end = at + natural_length(v);
     write_digits(v, out, end);
     end
