@@ -18,6 +18,7 @@ use Rattle.scan.specs.Fields.{same_bytes}
 use Rattle.scan.proofs.Fields.{same_self}
 use Rattle.stream.specs.Machine.{last_line, lines_from, lines}
 use Rattle.merge.specs.declared.Choice.{Choice}
+use Rattle.merge.specs.declared.MergeError.{MergeError}
 use Rattle.merge.specs.Merge.{choice, Merge, ◌then◌, act, follow, merge_from, merge}
 use Rattle.merge.specs.Call.{text}
 use Rattle.merge.proofs.Rules.{Numbered, one_number, front_risen, BySerial, below, above, twins, differ, by_serial_lem, Stops, no_stop, Under, Merges, none, stop, first, second, passed, merges}
@@ -132,7 +133,7 @@ free {j} {k} (more {n = m} {l = a} {ls = xs} e h r) (more {n = n} {l = b} {ls = 
     rw (front_risen e h, front_risen f i)
     (go (by_serial_lem m n (same_bytes a b)) (free r (more f i s) (λ x y p. g x y (inr p))) (free (more e h r) s (λ x y p q. g x y p (inr q))))
   where
-    go : {c : Choice} → BySerial m n (same_bytes a b) c → (merge_from m k xs (b ∷ ys)).refusal ≡ 0 → (merge_from j n (a ∷ xs) ys).refusal ≡ 0 →
+    go : {c : Choice MergeError} → BySerial m n (same_bytes a b) c → (merge_from m k xs (b ∷ ys)).refusal ≡ 0 → (merge_from j n (a ∷ xs) ys).refusal ≡ 0 →
         (act c (λ n. a then merge_from n k xs (b ∷ ys)) (λ n. merge_from n k xs (b ∷ ys)) (λ n. b then merge_from j n (a ∷ xs) ys)).refusal ≡ 0
     go (below l) p q = p
     go (above l) p q = q

@@ -11,6 +11,7 @@ use Rattle.scan.specs.Fields.{same_bytes}
 use Rattle.stream.specs.Machine.{lines}
 use Rattle.merge.specs.declared.Front.{Front}
 use Rattle.merge.specs.declared.Choice.{Choice}
+use Rattle.merge.specs.declared.MergeError.{MergeError}
 use Rattle.merge.specs.Merge.{by_serial, choice, Merge, ◌then◌, act, merge_from, merge}
 use Rattle.merge.proofs.Rules.{Numbered, InFront, malformed, fallen, risen, in_front_lem, BySerial, below, above, twins, differ, by_serial_lem}
 use Rattle.merge.proofs.Laws.{strictly, ◌among◌}
@@ -35,14 +36,14 @@ exchanged j k (a ∷ xs) (b ∷ ys) d =
     go (in_front_lem j a) (in_front_lem k b) (λ m. exchanged m k xs (b ∷ ys) (λ x y p. d x y (inr p)))
     (λ n. exchanged j n (a ∷ xs) ys (λ x y p q. d x y p (inr q)))
   where
-    to : Choice → Merge
+    to : Choice MergeError → Merge
     to c = act c (λ n. a then merge_from n k xs (b ∷ ys)) (λ n. merge_from n k xs (b ∷ ys)) (λ n. b then merge_from j n (a ∷ xs) ys)
 
-    fro : Choice → Merge
+    fro : Choice MergeError → Merge
     fro c = act c (λ n. b then merge_from n j ys (a ∷ xs)) (λ n. merge_from n j ys (a ∷ xs)) (λ n. a then merge_from k n (b ∷ ys) xs)
 
     by_order : ((n : ℤ) → merge_from n k xs (b ∷ ys) ≡ merge_from k n (b ∷ ys) xs) → ((n : ℤ) → merge_from j n (a ∷ xs) ys ≡ merge_from n j ys (a ∷ xs)) →
-        {m n : ℤ} → Numbered a m → Numbered b n → {c : Choice} → BySerial m n (same_bytes a b) c → to c ≡ fro (by_serial n m (same_bytes b a))
+        {m n : ℤ} → Numbered a m → Numbered b n → {c : Choice MergeError} → BySerial m n (same_bytes a b) c → to c ≡ fro (by_serial n m (same_bytes b a))
     by_order p q {m} e f (below h) = ap (λ r. a then r) (p m) ∙ rw (lower_second (same_bytes b a) h)
     by_order p q {n = n} e f (above h) = ap (λ r. b then r) (q n) ∙ rw (lower_first (same_bytes b a) h)
     by_order p q {n = n} e f (twins t u) = absurd (d a b (inl refl) (inl refl) n (rw t at e) f)

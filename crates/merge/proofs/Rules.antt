@@ -17,6 +17,7 @@ use Rattle.scan.proofs.Fields.{same_list}
 use Rattle.text.specs.Line.{read_line, serial_of}
 use Rattle.merge.specs.declared.Front.{Front}
 use Rattle.merge.specs.declared.Choice.{Choice}
+use Rattle.merge.specs.declared.MergeError.{MergeError}
 use Rattle.merge.specs.Merge.{merge_refusal, by_number, front_line, by_serial, choice, Merge, stopped, ◌then◌, act, alone, follow, merge_from}
 use Rattle.merge.specs.declared.Front.TheVariants.{Malformed, Fallen, Risen}
 use Rattle.merge.specs.declared.Choice.TheVariants.{Done, First, Passed, Second, Refused}
@@ -57,7 +58,7 @@ unfolding front_line
 front_risen e h = rw (e.is, lt_le_z h)
 
 -- ---- two serials
-pub data BySerial (m n : ℤ) (same : Bool) : Choice → Type 0 where
+pub data BySerial (m n : ℤ) (same : Bool) : Choice MergeError → Type 0 where
   below : m ⋖ n → BySerial m n same (First m)
   above : n ⋖ m → BySerial m n same (Second n)
   twins : m ≡ n → same ≡ true → BySerial m n same (Passed m)
@@ -96,14 +97,14 @@ seven = inr (inl refl)
 eight : Stops 8
 eight = inr (inr refl)
 
-abbrev Told : ℤ → ℤ → List ℕ → List ℕ → Choice → Type 0
+abbrev Told : ℤ → ℤ → List ℕ → List ℕ → Choice MergeError → Type 0
 Told j k a b Done = ⊥
 Told j k a b (Refused e) = Stops (merge_refusal e)
 Told j k a b (First n) = Numbered a n × ((j ⋖ n) × Above n b)
 Told j k a b (Passed n) = Numbered a n × ((j ⋖ n) × (a ≡ b))
 Told j k a b (Second n) = Numbered b n × ((k ⋖ n) × Above n a)
 
-by_order : {j k m n : ℤ} {a b : List ℕ} → Numbered a m → j ⋖ m → Numbered b n → k ⋖ n → {c : Choice} → BySerial m n (same_bytes a b) c → Told j k a b c
+by_order : {j k m n : ℤ} {a b : List ℕ} → Numbered a m → j ⋖ m → Numbered b n → k ⋖ n → {c : Choice MergeError} → BySerial m n (same_bytes a b) c → Told j k a b c
 by_order {n = n} e h f i (below l) = (e, (h, record { serial = n; is = f; above = l }))
 by_order {m = m} e h f i (above l) = (f, (i, record { serial = m; is = e; above = l }))
 by_order {a = a} {b} e h f i (twins o s) = (e, (h, same_list a b s))
@@ -155,7 +156,7 @@ second_follows j k (b ∷ ys) = go (in_front_lem k b) (λ n. second_follows j n 
     go (fallen e h) next = stop seven
     go (risen {n = n} e h) next = second e h tt (next n)
 
-by_choice : {j k : ℤ} {a b : List ℕ} {xs ys : List (List ℕ)} {f g : ℤ → Merge} (c : Choice) → Told j k a b c →
+by_choice : {j k : ℤ} {a b : List ℕ} {xs ys : List (List ℕ)} {f g : ℤ → Merge} (c : Choice MergeError) → Told j k a b c →
     ((n : ℤ) → Merges n k xs (b ∷ ys) (f n)) → ((n : ℤ) → Merges j n (a ∷ xs) ys (g n)) →
     Merges j k (a ∷ xs) (b ∷ ys) (act c (λ n. a then f n) (λ n. f n) (λ n. b then g n))
 by_choice Done t p q = absurd t

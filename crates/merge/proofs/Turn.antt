@@ -61,7 +61,7 @@ by_lines j k (a ∷ xs) [] = simp one_sheet (lone_first _ _ _ _ (front_line j a)
 by_lines j k (a ∷ xs) (b ∷ ys) = refl
 
 -- a step reads a line that is there
-abbrev Reads : Choice → ℕ → ℕ → Type 0
+abbrev Reads : Choice MergeError → ℕ → ℕ → Type 0
 Reads Done x y = Unit {0}
 Reads (Refused r) x y = Unit {0}
 Reads (First n) x y = 0 < x
@@ -72,7 +72,7 @@ some : (n : ℕ) → 0 < suc n
 some n = omega arith
 
 module _ (same : Bool) where
-  reads_both : (c : Choice) (x y : ℕ) → Reads c (suc x) (suc y)
+  reads_both : (c : Choice MergeError) (x y : ℕ) → Reads c (suc x) (suc y)
   reads_both Done x y = tt
   reads_both (Refused r) x y = tt
   reads_both (First n) x y = some x
@@ -155,8 +155,8 @@ module _ {s t : List ℕ} {f g : Front} (l : Left s t f g) where
   abbrev pub read_behind_second : (n : ℤ) (r : List ℕ) {g' : Front} → SFits w64 n → g' ≡ front (to_z w64 (of_z w64 n)) (lines r) → Left s r f g'
   read_behind_second n r h e = behind_second n r (rw (back h) at e)
 
-  module _ {c : Choice} (e : c ≡ choice f g (same_bytes (first_line s) (first_line t))) where
-    by : {d : Choice} → c ≡ d → rest l
+  module _ {c : Choice MergeError} (e : c ≡ choice f g (same_bytes (first_line s) (first_line t))) where
+    by : {d : Choice MergeError} → c ≡ d → rest l
         ≡ act d (λ n. first_line s then merge_rest n l.k (behind s) t) (λ n. merge_rest n l.k (behind s) t)
         (λ n. first_line t then merge_rest l.j n s (behind t))
     by d = rw (← l.first_front, ← l.second_front, ← e, d) at (turn l.j l.k s t)
@@ -180,7 +180,7 @@ module _ {s t : List ℕ} {f g : Front} (l : Left s t f g) where
     pub second : {n : ℤ} {r : List ℕ} → c ≡ Second n → r ≡ unread c s t → rest l ≡ first_line t then merge_rest l.j n s r
     second d p = rw (p, d) (by d)
 
-    reads : {d : Choice} → c ≡ d → Reads d (length (lines s)) (length (lines t))
+    reads : {d : Choice MergeError} → c ≡ d → Reads d (length (lines s)) (length (lines t))
     reads d = rw (← l.first_front, ← l.second_front, ← e, d) at (reads_lines (same_bytes (first_line s) (first_line t)) l.j l.k (lines s) (lines t))
 
     pub first_less : {n : ℤ} {r : List ℕ} → c ≡ First n → r ≡ unread c s t → length r < length s

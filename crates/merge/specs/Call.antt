@@ -14,7 +14,7 @@ unfoldable pub behind : List ℕ → List ℕ
 behind s = drop (suc (before 10 s)) s
 
 -- "A merge step hands back the unread rest of whichever sheet it read from"; where it reads no line, all of the first
-abbrev pub unread : Choice → List ℕ → List ℕ → List ℕ
+abbrev pub unread : {E : Type 0} → Choice E → List ℕ → List ℕ → List ℕ
 unread Done a b = a
 unread (Refused e) a b = a
 unread (First n) a b = behind a

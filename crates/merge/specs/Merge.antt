@@ -32,11 +32,11 @@ front last (l ∷ ls) = front_line last l
 
 -- ---- THE CHOICE at the lines in front of two sheets, which are the same, byte by byte, or not
 -- two serials: "where both sheets have equal lines under one number, the step passes the first sheet's by"; "8, one number with two differing lines"
-abbrev pub by_serial : ℤ → ℤ → Bool → Choice
+abbrev pub by_serial : ℤ → ℤ → Bool → Choice MergeError
 by_serial m n same = cond (lt_z m n) (First m) (cond (lt_z n m) (Second n) (cond same (Passed m) (Refused err.Differing)))
 
 -- "a malformed line stops the merge with 5", on either side; then a fallen one "with 7", on either; 8 comes "after 5 and 7 at the same pair of lines"
-unfoldable pub choice : Front → Front → Bool → Choice
+unfoldable pub choice : Front → Front → Bool → Choice MergeError
 choice Malformed g same = Refused err.Malformed
 choice Fallen Malformed same = Refused err.Malformed
 choice Fallen Fallen same = Refused err.Fallen
@@ -65,7 +65,7 @@ abbrev pub ◌then◌ : List ℕ → Merge → Merge
 ◌then◌ l m = record { refusal = m.refusal; copied = l ∷ m.copied }
 
 -- what a choice leads to: the merge goes on behind the first sheet's line, written or passed by, or behind the second's, written
-abbrev pub act : Choice → (ℤ → Merge) → (ℤ → Merge) → (ℤ → Merge) → Merge
+abbrev pub act : Choice MergeError → (ℤ → Merge) → (ℤ → Merge) → (ℤ → Merge) → Merge
 act Done first passed second = stopped 0
 act (Refused e) first passed second = stopped (merge_refusal e)
 act (First n) first passed second = first n

@@ -49,9 +49,9 @@ pub enum Front {
     Risen(i64),
 }
 
-// What the merge does next, with the serial of the line that it reads.
+// What the merge does next, with the serial of the line that it reads. A step takes a choice whatever its refusal carries.
 #[derive(Clone, Copy)]
-pub enum Choice {
+pub enum Choice<E = MergeError> {
     // no line is left
     Done,
     // the first sheet's line is written
@@ -61,7 +61,7 @@ pub enum Choice {
     // the second sheet's line is written
     Second(i64),
     // the merge stops; never for want of room
-    Refused(MergeError),
+    Refused(E),
 }
 
 // ---- one step
@@ -130,7 +130,7 @@ fn rest(s: &[u8]) -> &[u8]
 }
 
 // THE STEP: the unread rest of whichever sheet it reads from; all of the first, where it reads no line.
-pub fn step<'a>(a: &'a [u8], b: &'a [u8], c: Choice) -> &'a [u8]
+pub fn step<'a, E: Copy>(a: &'a [u8], b: &'a [u8], c: Choice<E>) -> &'a [u8]
     ensures { result.now ≡ unread c a.now b.now }
 {
     match c {

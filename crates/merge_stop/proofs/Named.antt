@@ -14,6 +14,7 @@ use Rattle.scan.specs.Fields.{same_bytes}
 use Rattle.stream.specs.Machine.{lines}
 use Rattle.merge.specs.declared.Front.{Front}
 use Rattle.merge.specs.declared.Choice.{Choice}
+use Rattle.merge.specs.declared.MergeError.{MergeError}
 use Rattle.merge_stop.specs.declared.Stop.{Stop}
 use Rattle.merge.specs.Merge.{merge_refusal, front_line, front, choice, Merge, stopped, ◌then◌, act, follow, merge_from, merge}
 use Rattle.merge.specs.Call.{first_line, behind, unread}
@@ -58,8 +59,8 @@ unfolding stop_rest
 turn h i j k s t = simp (front_line_lem, behind_lines) at (by_lines h i j k (lines s) (lines t))
 
 -- by what the code has chosen; it counts a line that it has read
-module _ (h i : ℕ) {s t : List ℕ} {f g : Front} (l : Left s t f g) {c : Choice} (e : c ≡ choice f g (same_bytes (first_line s) (first_line t))) where
-  pub by : {d : Choice} → c ≡ d → stop_rest h i l.j l.k s t
+module _ (h i : ℕ) {s t : List ℕ} {f g : Front} (l : Left s t f g) {c : Choice MergeError} (e : c ≡ choice f g (same_bytes (first_line s) (first_line t))) where
+  pub by : {d : Choice MergeError} → c ≡ d → stop_rest h i l.j l.k s t
       ≡ chosen h i f g d (λ n. stop_rest (suc h) i n l.k (behind s) t) (λ n. stop_rest h (suc i) l.j n s (behind t))
   by d = rw (← l.first_front, ← l.second_front, ← e, d) at (turn h i l.j l.k s t)
 
@@ -105,14 +106,14 @@ named_there r j (a ∷ xs) h p = omega (arith, named_most r (front_line j a) h)
 
 module _ {h i : ℕ} (p : 0 < h) (q : 0 < i) where
   -- and a refusal names one
-  abbrev Names : Front → Front → Choice → Type 0
+  abbrev Names : Front → Front → Choice MergeError → Type 0
   Names f g Done = Unit {0}
   Names f g (Refused e) = let r = merge_refusal e in 0 < named r f h + named r g i
   Names f g (First n) = Unit {0}
   Names f g (Passed n) = Unit {0}
   Names f g (Second n) = Unit {0}
 
-  names_both : {m n : ℤ} {same : Bool} {c : Choice} → BySerial m n same c → Names (Risen m) (Risen n) c
+  names_both : {m n : ℤ} {same : Bool} {c : Choice MergeError} → BySerial m n same c → Names (Risen m) (Risen n) c
   unfolding named
   names_both (below e) = tt
   names_both (above e) = tt
@@ -146,7 +147,7 @@ module _ {h i : ℕ} (p : 0 < h) (q : 0 < i) where
         (met h i (front j xs) (front k ys) same x y)
     told j k same a b u v {x} {y} next-first next-second = go (choice (front j xs) (front k ys) same) (names (front j xs) (front k ys) same)
       where
-        go : (c : Choice) → Names (front j xs) (front k ys) c →
+        go : (c : Choice MergeError) → Names (front j xs) (front k ys) c →
             Told h i xs ys (act c (λ n. a then u n) u (λ n. b then v n)).refusal (chosen h i (front j xs) (front k ys) c x y)
         go Done e = told_none
         go (Refused r) e =

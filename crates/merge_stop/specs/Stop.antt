@@ -4,6 +4,7 @@ use Rattle.scan.specs.Fields.{same_bytes}
 use Rattle.stream.specs.Machine.{lines}
 use Rattle.merge.specs.declared.Front.{Front}
 use Rattle.merge.specs.declared.Choice.{Choice}
+use Rattle.merge.specs.declared.MergeError.{MergeError}
 use Rattle.merge_stop.specs.declared.Stop.{Stop}
 use Rattle.merge.specs.Merge.{merge_refusal, front_line, choice}
 use Rattle.merge.specs.declared.Front.TheVariants.{End, Malformed, Fallen, Risen}
@@ -22,7 +23,7 @@ abbrev pub none : Stop
 none = record { refusal = pos 0; first = 0; second = 0 }
 
 -- ---- A PAIR OF LINES that is met, f the h-th of the first sheet and g the i-th of the second: what the choice there leads to
-abbrev pub chosen : ℕ → ℕ → Front → Front → Choice → (ℤ → Stop) → (ℤ → Stop) → Stop
+abbrev pub chosen : ℕ → ℕ → Front → Front → Choice MergeError → (ℤ → Stop) → (ℤ → Stop) → Stop
 chosen h i f g Done first second = none
 chosen h i f g (Refused e) first second =
     let r = merge_refusal e in record { refusal = pos r; first = named r f h; second = named r g i }
