@@ -18,8 +18,8 @@
 --   Far              the error of the whole: (8M/2^N + rounding-share·N)·2^k
 --   Given            what the steps are given, inside the rectangle and outside
 --
--- For the code: Fits (every state of the run, the error bound, what an accepted input is reduced to), Divided (the nearest multiple by a division), Back (what an exponent and
--- a start are brought back to).
+-- For the code: Begun (what is known before the first step), Fits (every state of the run, the error bound, what an accepted input is
+-- reduced to), Divided (the nearest multiple by a division), Back (what an exponent and a start are brought back to).
 pub mod Box
 pub mod Convergence
 pub mod Error

@@ -13,7 +13,8 @@
 --   sum-fits : {x y : ℤ} → Size x (two 61) → Size y (two 61) → SFits w64 (x +ℤ y)
 --   sum-fits h g = sfits-size (size-add h g) tt
 --
--- A branch tells of a test, `simp (back, f.fx) at c.if1.taken : lt_z x (pos 0) ≡ true`; `lt_z_true` makes the order of it.
+-- A branch tells of a test, `simp (back, f.fx) at c.if1.taken : lt_z x (pos 0) ≡ true`; the library's `lt_z_yes` of `holds` makes the order
+-- of it.
 pub mod Fits
 pub mod Shift
 pub mod Compare
