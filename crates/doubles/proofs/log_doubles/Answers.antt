@@ -23,12 +23,7 @@ held c = (search rules, search rules)
 small : (c : In_ok-value) → Small 48 c.in_ok-value.field-0.value
 small c = log_small c.args.n c.args.p.x c.args.p.y (logged c)
 
-pub write_part-requires : goal.write_part-requires
-write_part-requires c = let w = (goal.at.write_part-requires c).In_ok-value in simp (back (held w).0) (omega (arith, (small w).x))
-
-pub write_part-requires-2 : goal.write_part-requires-2
-write_part-requires-2 c = let w = (goal.at.write_part-requires-2 c).In_ok-value in simp (back (held w).1) (omega (arith, (small w).y))
-
+-- ---- the contract, first, so that a wrong body is refused for its answer
 pub returns-clause-kept : goal.returns-clause-kept
 returns-clause-kept c =
     let w = (goal.at.returns-clause-kept c).In_ok-value in
@@ -36,3 +31,10 @@ returns-clause-kept c =
     given c.args.n c.args.p.x c.args.p.y
     (ap₂ (λ p q. Ok (record { x = p; y = q })) (c.write_part.ensures ∙ ap (double_of 48) (back h.0)) (c.write_part-2.ensures ∙ ap (double_of 48) (back h.1))
     ∙ ap (in_doubles 48) (sym (logged w)))
+
+-- ---- the needs
+pub write_part-requires : goal.write_part-requires
+write_part-requires c = let w = (goal.at.write_part-requires c).In_ok-value in simp (back (held w).0) (omega (arith, (small w).x))
+
+pub write_part-requires-2 : goal.write_part-requires-2
+write_part-requires-2 c = let w = (goal.at.write_part-requires-2 c).In_ok-value in simp (back (held w).1) (omega (arith, (small w).y))
